@@ -1,0 +1,2 @@
+-- One file to a concept, as in specs/.
+pub mod Cases

@@ -1,0 +1,20 @@
+use borrow.Author.Tests.{lt-leb, le-leb}
+use Rattle.model.specs.Made.{eventSetOf}
+use borrow.Author.Needs.{needs}
+use Rattle.model.proofs.event_set.EventSet.new.Statement.{statement}
+use Rattle.model.proofs.event_set.EventSet.new.Tie as tie
+use Rattle.model.proofs.event_set.EventSet.new.Reads as reads
+use Rattle.model.proofs.event_set.EventSet.new.Lts as lts
+
+-- src/event_set.rt:27:13
+returns : tie.Need-returns
+unfolding eventSetOf
+returns c = simp (le-leb _ _ (c .if1 .taken))
+
+-- src/event_set.rt:23:5
+returns-2 : tie.Need-returns-2
+unfolding eventSetOf
+returns-2 c = simp (lt-leb _ _ (c .if1 .left))
+
+pub new-spec : {M : Type 1} → statement M
+new-spec = tie.close (tie.spec returns returns-2)

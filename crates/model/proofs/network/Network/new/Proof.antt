@@ -1,0 +1,52 @@
+use mathlib.Core.Path.{_∙_, sym}
+use mathlib.Core.Bool.{_&&_, and-false}
+use borrow.Author.Needs.{needs}
+use borrow.Author.Tests.{not-true, not-false}
+use Rattle.model.specs.Made.{networkOf}
+use Rattle.model.proofs.network.Network.new.Statement.{statement}
+use Rattle.model.proofs.network.Network.new.Tie as tie
+use Rattle.model.proofs.network.Network.new.Reads as reads
+use Rattle.model.proofs.network.Network.new.Lts as lts
+use Rattle.model.proofs.check.is_between.Reads as is-between-reads
+
+-- src/network.rt:28:27
+cast-is-between : tie.Need-cast-is-between
+cast-is-between c = search needs
+
+-- src/network.rt:28:13
+is-between-requires : tie.Need-is-between-requires
+is-between-requires c κs = search needs
+
+-- src/network.rt:29:13
+returns : tie.Need-returns
+unfolding networkOf
+returns c = simp (sym (c .before .is-between .ensures) ∙ not-true _ (c .if1 .taken))
+
+-- src/network.rt:31:13
+is-between-requires-2 : tie.Need-is-between-requires-2
+is-between-requires-2 c κs = search needs
+
+-- src/network.rt:32:13
+returns-2 : tie.Need-returns-2
+unfolding networkOf
+returns-2 c = simp (sym (c .before .is-between2 .ensures) ∙ not-true _ (c .if2 .taken), and-false)
+
+-- src/network.rt:25:5
+returns-3 : tie.Need-returns-3
+unfolding networkOf
+returns-3 c =
+    simp (
+      sym (c .before .before .before .is-between .ensures) ∙ not-false _ (c .before .before .if1 .left),
+      sym (c .before .is-between2 .ensures) ∙ not-false _ (c .if2 .left),
+    )
+
+pub new-spec : {M : Type 1} → statement M
+new-spec =
+    tie.close
+    (tie.spec
+    cast-is-between
+    is-between-requires
+    returns
+    is-between-requires-2
+    returns-2
+    returns-3)

@@ -1,0 +1,25 @@
+use borrow.Author.Needs.{needs}
+use borrow.Author.Tests.{lt-leb, le-leb}
+use Rattle.model.specs.Made.{thresholdsOf}
+use Rattle.model.proofs.thresholds.Thresholds.new.Statement.{statement}
+use Rattle.model.proofs.thresholds.Thresholds.new.Tie as tie
+use Rattle.model.proofs.thresholds.Thresholds.new.Reads as reads
+use Rattle.model.proofs.thresholds.Thresholds.new.Lts as lts
+
+-- src/thresholds.rt:22:13
+returns : tie.Need-returns
+unfolding thresholdsOf
+returns c = simp (lt-leb _ _ (c .if1 .taken))
+
+-- src/thresholds.rt:25:13
+returns-2 : tie.Need-returns-2
+unfolding thresholdsOf
+returns-2 c = simp (le-leb _ _ (c .before .if1 .left), lt-leb _ _ (c .if2 .taken))
+
+-- src/thresholds.rt:18:5
+returns-3 : tie.Need-returns-3
+unfolding thresholdsOf
+returns-3 c = simp (le-leb _ _ (c .before .if1 .left), le-leb _ _ (c .if2 .left))
+
+pub new-spec : {M : Type 1} → statement M
+new-spec = tie.close (tie.spec returns returns-2 returns-3)

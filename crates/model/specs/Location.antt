@@ -1,0 +1,73 @@
+-- Locations (01: places), walks between them and their distance.
+use mathlib.Core.Bool.{Bool, true, false, cond}
+use mathlib.Core.List.{List, [], _∷_, _++_, map, List·Memᴰ}
+use mathlib.Core.Path.{_≡_}
+use Prim.Native.Nat.{ℕ, zero, suc, pred, _+_, _-_, _≤_, _<_}
+use lib.Dec.{eqb}
+use Rattle.model.specs.Network.{Network, IsNode, edges, first, second, size}
+use Rattle.model.specs.Distance.{Distance, metres, none, least, plus, leastOf, difference}
+use Rattle.model.specs.Walk.{Walk}
+use Rattle.model.specs.NodeDistance.{nodeDistance}
+
+-- a node, or the edge at an index with an offset strictly inside it
+pub data Location : Type 0 where
+  node : ℕ → Location
+  inside : ℕ → ℕ → Location
+
+-- the location at an offset from the first node of the edge at an index; the edge's ends are nodes
+unfoldable pub locationOf : Network → ℕ → ℕ → Location
+locationOf net i offset =
+    cond (eqb offset 0) (node (first net i)) (cond (eqb offset (size net i)) (node (second net i)) (inside i offset))
+
+-- p is a location of the network
+pub data IsLocation (net : Network) : Location → Type 0 where
+  a-node : {v : ℕ} → IsNode net v → IsLocation net (node v)
+  an-inside : {i x : ℕ} → i < edges net → 1 ≤ x → x < size net i → IsLocation net (inside i x)
+
+-- a node where a walk may leave a location, and the gap: the metres from the location to it
+pub record End : Type 0 where
+  pub at : ℕ
+  pub gap : ℕ
+
+abbrev pub end : ℕ → ℕ → End
+end at gap = record { at = at; gap = gap }
+
+-- the two ends of the edge at index i, seen from an offset
+unfoldable pub edgeEnds : Network → ℕ → ℕ → List End
+edgeEnds net i x = end (first net i) x ∷ end (second net i) (size net i - x) ∷ []
+
+-- a node is its own only end, at gap 0
+unfoldable pub ends : Network → Location → List End
+ends net (node v) = end v 0 ∷ []
+ends net (inside i x) = edgeEnds net i x
+
+-- a walk between two locations, with its length: from an end of the first by a node walk to an end of the second,
+-- or along one edge from one offset to the other
+pub data LocationWalk (net : Network) : Location → Location → ℕ → Type 0 where
+  by-ends : {p q : Location} {a b : End} {n : ℕ} → List·Memᴰ a (ends net p) → List·Memᴰ b (ends net q) → Walk net (a .at) (b .at) n → LocationWalk net p q (a .gap + n + b .gap)
+  along : {i x y : ℕ} → LocationWalk net (inside i x) (inside i y) (difference x y)
+
+-- the shortest way from one end to another
+unfoldable pub route : Network → End → End → Distance
+route net a b = plus (plus (metres (a .gap)) (nodeDistance net (a .at) (b .at))) (metres (b .gap))
+
+-- the least over all choices of an end of the first list and an end of the second
+unfoldable pub routes : Network → List End → List End → Distance
+routes net [] bs = none
+routes net (a ∷ more) bs = least (leastOf (map (route net a) bs)) (routes net more bs)
+
+-- the stretch between two locations strictly inside one edge
+unfoldable pub stretch : Location → Location → Distance
+stretch (node v) q = none
+stretch (inside i x) (node w) = none
+stretch (inside i x) (inside j y) = cond (eqb i j) (metres (difference x y)) none
+
+-- 01: the distance of two places
+unfoldable pub locationDistance : Network → Location → Location → Distance
+locationDistance net p q = least (routes net (ends net p) (ends net q)) (stretch p q)
+
+-- the same by both gaps of each location to the ends of its edge, on a node too: what the counting methods use.
+-- Law (proofs/Laws/Location): it is the location distance.
+unfoldable pub edgeDistance : Network → ℕ → ℕ → ℕ → ℕ → Distance
+edgeDistance net i x j y =
+    least (routes net (edgeEnds net i x) (edgeEnds net j y)) (cond (eqb i j) (metres (difference x y)) none)

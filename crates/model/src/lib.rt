@@ -1,0 +1,14 @@
+// The types that carry document 01's limits, and the refusal. What a reader must believe stands in specs/.
+mod check;
+mod event_set;
+mod network;
+mod thresholds;
+
+pub use check::Check;
+pub use check::is_between;
+pub use event_set::EventSet;
+pub use event_set::MadeEventSet;
+pub use network::MadeNetwork;
+pub use network::Network;
+pub use thresholds::MadeThresholds;
+pub use thresholds::Thresholds;
