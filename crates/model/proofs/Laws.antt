@@ -1,2 +1,5 @@
 -- One file to a concept, as in specs/.
+pub mod Distance
+pub mod Least
+pub mod NodeDistance
 pub mod Cases
