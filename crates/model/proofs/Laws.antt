@@ -1,5 +1,6 @@
 -- One file to a concept, as in specs/.
 pub mod Distance
+pub mod Within
 pub mod Least
 pub mod NodeDistance
 pub mod Cases

@@ -1,13 +1,10 @@
--- The order on distances, and the laws of least, plus, within and bounded under it.
-use mathlib.Core.Bool.{Bool, true, false, cond}
-use mathlib.Core.List.{List, [], _∷_, List·Memᴰ}
-use mathlib.Core.Path.{_≡_, refl, sym, _∙_, ap, subst}
-use Prim.Native.Nat.{ℕ, zero, suc, _+_, _≤_, _<_, min}
+-- The order on distances, and the laws of least and plus under it.
+use mathlib.Core.Logic.{_⊎_, inl, inr}
+use mathlib.Core.Path.{_≡_, refl, _∙_, ap, subst}
+use Prim.Native.Nat.{ℕ, _≤_}
 use native.Mathlib.Omega.{arith}
-use lib.Dec.{leb, eqb}
-use borrow.Author.Tests.{le-leb, lt-leb, leb-true, leb-false}
-use Rattle.model.specs.Distance.{Distance, metres, none, least, plus, leastOf, leastBelow, within, exactly, bounded}
-use Rattle.model.specs.Walk.{IsLeast, attained, no-walk}
+use native.Mathlib.Decide.{decLe}
+use Rattle.model.specs.Distance.{Distance, metres, none, least, plus}
 
 -- the order: numbers of metres as they are, none above all
 pub data Le : Distance → Distance → Type 0 where
@@ -18,7 +15,7 @@ pub data Le : Distance → Distance → Type 0 where
 pub in-order : {m n : ℕ} → m ≤ n → Le (metres m) (metres n)
 in-order h = le-metres h
 
--- the order goes round no circle and along every chain
+-- a distance is below itself, and below what is above one above it; two that are below each other are equal
 pub le-refl : (d : Distance) → Le d d
 le-refl (metres m) = in-order (omega arith)
 le-refl none = le-none
@@ -94,6 +91,16 @@ least-none d = le-antisym (least-left d none) (least-greatest (le-refl d) le-non
 pub least-of-le : {d e : Distance} → Le d e → least d e ≡ d
 least-of-le {d} {e} h = le-antisym (least-left d e) (least-greatest (le-refl d) h)
 
+-- of two distances one is below the other
+pub le-total : (d e : Distance) → Le d e ⊎ Le e d
+le-total d none = inl le-none
+le-total none (metres n) = inr le-none
+le-total (metres m) (metres n) = by-order (decLe m n)
+  where
+    by-order : Dec (m ≤ n) → Le (metres m) (metres n) ⊎ Le (metres n) (metres m)
+    by-order (yes h) = inl (in-order h)
+    by-order (no h) = inr (in-order (omega arith))
+
 -- plus is a sum with 0 metres for zero
 pub plus-comm : (d e : Distance) → plus d e ≡ plus e d
 unfolding plus
@@ -121,6 +128,10 @@ pub plus-none : (d : Distance) → plus d none ≡ none
 unfolding plus
 plus-none (metres m) = refl
 plus-none none = refl
+
+pub none-plus : (d : Distance) → plus none d ≡ none
+unfolding plus
+none-plus d = refl
 
 -- plus keeps the order, and a sum is above its parts
 pub plus-monotone : {c d e f : Distance} → Le c d → Le e f → Le (plus c e) (plus d f)

@@ -1,14 +1,15 @@
 -- The least of many distances, and distances that are the least length over some kind of walk.
-use mathlib.Core.Bool.{Bool, true, false}
+use mathlib.Core.Bool.{true, false}
 use mathlib.Core.List.{List, [], _∷_, List·Memᴰ, List·Memᴰ·head, List·Memᴰ·tail}
 use mathlib.Core.Path.{_≡_, refl, sym, ap, subst}
 use Prim.Native.Nat.{ℕ, zero, suc, _+_, _≤_, _<_, min}
 use native.Mathlib.Omega.{arith}
-use native.Mathlib.Decide.{decLe, decLt, ℕ-discrete}
-use borrow.Author.Tests.{le-leb, leb-true, leb-false}
-use Rattle.model.specs.Distance.{Distance, metres, none, least, plus, leastOf, leastBelow, within}
+use native.Mathlib.Decide.{decLe, ℕ-discrete}
+use borrow.Author.Tests.{leb-true, eq-eqb, eqb-true}
+use Rattle.model.specs.Distance.{Distance, metres, none, least, plus, leastOf, leastBelow, within, exactly, bounded}
 use Rattle.model.specs.Walk.{IsLeast, attained, no-walk}
-use Rattle.model.proofs.Laws.Distance.{Le, le-metres, le-none, in-order, le-refl, le-trans, le-antisym, metres-le, none-le, le-of-eq, least-left, least-right, least-greatest}
+use Rattle.model.proofs.Laws.Distance.{Le, le-none, in-order, le-trans, le-antisym, metres-le, none-le, le-of-eq, least-left, least-right, least-greatest}
+use Rattle.model.proofs.Laws.Within.{within-le, le-within, beyond-le, bounded-cases}
 
 -- the least of f 0, .., f (n - 1) is below each of them
 pub below-each : (n : ℕ) (f : ℕ → Distance) (i : ℕ) → i < n → Le (leastBelow n f) (f i)
@@ -103,3 +104,35 @@ least-unique {d = d} {e = e} l k = le-antisym (least-le l e (least-reached k)) (
 pub least-map : {Walks Others : ℕ → Type 0} {d : Distance} → ((n : ℕ) → Walks n → Others n) → ((n : ℕ) → Others n → Walks n) → IsLeast Walks d → IsLeast Others d
 least-map to from (attained {m = m} p h) = attained (to m p) (λ n w. h n (from n w))
 least-map to from (no-walk h) = no-walk (λ n w. h n (from n w))
+
+-- a least length is within a threshold if a walk that long or shorter exists
+pub within-walk : {Walks : ℕ → Type 0} {d : Distance} → IsLeast Walks d → (t : ℕ) → within d t ≡ true → (n : ℕ) × Walks n × (n ≤ t)
+unfolding within
+within-walk (attained {m = m} p h) t q = (m, p, leb-true m t q)
+within-walk (no-walk h) t q = let z : _≡_ {A = ℕ} 0 1 = cc in absurd (omega arith)
+
+pub walk-within : {Walks : ℕ → Type 0} {d : Distance} → IsLeast Walks d → (n t : ℕ) → Walks n → n ≤ t → within d t ≡ true
+walk-within l n t w h = le-within (le-trans (least-below l n w) (in-order h))
+
+-- and if it is not, every walk is longer
+pub beyond-walk : {Walks : ℕ → Type 0} {d : Distance} → IsLeast Walks d → (n t : ℕ) → Walks n → within d t ≡ false → t < n
+beyond-walk {d = d} l n t w p = metres-le (le-trans (beyond-le d t p) (least-below l n w))
+
+-- a least length is exactly t metres if a walk of t metres exists and none is shorter
+pub exactly-walk : {Walks : ℕ → Type 0} {d : Distance} → IsLeast Walks d → (t : ℕ) → exactly d t ≡ true → Walks t
+unfolding exactly
+exactly-walk {Walks} (attained {m = m} p h) t q = subst Walks (eqb-true m t q) p
+exactly-walk (no-walk h) t q = let z : _≡_ {A = ℕ} 0 1 = cc in absurd (omega arith)
+
+pub walk-exactly : {Walks : ℕ → Type 0} {d : Distance} → IsLeast Walks d → (t : ℕ) → Walks t → ((n : ℕ) → Walks n → t ≤ n) → exactly d t ≡ true
+unfolding exactly
+walk-exactly (attained {m = m} p h) t w k = eq-eqb m t (omega (arith, h t w, k m p))
+walk-exactly (no-walk h) t w k = absurd (h t w)
+
+-- up to a bound it is the least length over the walks no longer than the bound
+pub least-bounded : {Walks : ℕ → Type 0} {d : Distance} → IsLeast Walks d → (t : ℕ) → IsLeast (λ n. Walks n × (n ≤ t)) (bounded t d)
+least-bounded {Walks} {d} l t = bounded-cases (IsLeast (λ n. Walks n × (n ≤ t))) t d (inner l) (λ p. no-walk (λ n w. omega (arith, beyond-walk l n t (w .0) p, w .1)))
+  where
+    inner : {e : Distance} → IsLeast Walks e → within e t ≡ true → IsLeast (λ n. Walks n × (n ≤ t)) e
+    inner (attained p h) q = attained (p, metres-le (within-le _ t q)) (λ n w. h n (w .0))
+    inner (no-walk h) q = no-walk (λ n w. h n (w .0))

@@ -1,17 +1,17 @@
--- The node distance is the least length over all walks, and so a distance.
+-- The node distance is the least length over all walks; from that, symmetry and the triangle inequality.
 use mathlib.Core.Bool.{Bool, true, false, cond, _&&_, _||_, or-true}
-use mathlib.Core.Path.{_≡_, refl, sym, _∙_, ap, subst}
+use mathlib.Core.Path.{_≡_, refl, subst}
 use Prim.Native.Nat.{ℕ, zero, suc, _+_, _≤_, _<_}
 use native.Mathlib.Omega.{arith}
 use native.Mathlib.Decide.{ℕ-discrete}
 use lib.Dec.{eqb}
-use borrow.Author.Tests.{eq-eqb, eqb-true, eqb-false}
+use borrow.Author.Tests.{eq-eqb, eqb-true}
 use Rattle.model.specs.Network.{Network, edges, first, second, size, IsNode, EndsAreNodes}
 use Rattle.model.specs.Distance.{Distance, metres, none, least, plus, leastBelow}
 use Rattle.model.specs.Walk.{Joins, forward, backward, Walk, here, onward, IsLeast}
-use Rattle.model.specs.NodeDistance.{crossing, direct, through, nodeDistance}
-use Rattle.model.proofs.Laws.Distance.{Le, zero-le, le-none, in-order, le-refl, le-trans, le-antisym, le-of-eq, least-left, least-right, least-greatest, plus-assoc, plus-monotone, le-plus-left, le-plus-right, plus-least, least-plus}
-use Rattle.model.proofs.Laws.Least.{below-each, Reached, reached-least, reached-plus, reached-below, is-least, least-reached, least-le, least-unique, least-map}
+use Rattle.model.specs.NodeDistance.{crossing, direct, through, nodeDistance, boundedDistance}
+use Rattle.model.proofs.Laws.Distance.{Le, zero-le, in-order, le-refl, le-trans, le-antisym, le-of-eq, least-left, least-right, least-greatest, plus-assoc, plus-monotone, le-plus-left, le-plus-right, plus-least, least-plus}
+use Rattle.model.proofs.Laws.Least.{below-each, Reached, reached-least, reached-plus, reached-below, is-least, least-reached, least-le, least-unique, least-map, least-bounded}
 
 -- an edge is a walk of its length
 pub edge-walk : {net : Network} {u v : ℕ} (i : ℕ) → i < edges net → Joins net i u v → Walk net u v (size net i)
@@ -33,6 +33,11 @@ pub walk-turn : {net : Network} {u v n : ℕ} → Walk net u v n → Walk net v 
 walk-turn here = here
 walk-turn {net} {v = v} (onward {u = u} {n = n} i h q j) =
     subst (Walk net v u) (omega arith) (walk-join (edge-walk i h (joins-turn j)) (walk-turn q))
+
+-- a walk as long as one distance says and then one as long as another says
+reached-join : (net : Network) (u v w : ℕ) (d e : Distance) → Reached (Walk net u v) d → Reached (Walk net v w) e → Reached (Walk net u w) (plus d e)
+reached-join net u v w d e =
+    reached-plus (Walk net u v) (Walk net v w) (Walk net u w) (λ m n p q. walk-join p q) d e
 
 -- an edge that joins u and v crosses from u to v in its length
 crossing-joins : (net : Network) (u v i : ℕ) → Joins net i u v → crossing net u v i ≡ metres (size net i)
@@ -97,11 +102,11 @@ through-reached net (suc k) u v =
     (through net k u v)
     (plus (through net k u (suc k)) (through net k (suc k) v))
     (through-reached net k u v)
-    (reached-plus
-    (Walk net u (suc k))
-    (Walk net (suc k) v)
-    (Walk net u v)
-    (λ m n p q. walk-join p q)
+    (reached-join
+    net
+    u
+    (suc k)
+    v
     (through net k u (suc k))
     (through net k (suc k) v)
     (through-reached net k u (suc k))
@@ -165,14 +170,24 @@ joined-node : {net : Network} → EndsAreNodes net → (i v w : ℕ) → i < edg
 joined-node {net} valid i v w h (forward p q) = subst (IsNode net) p (valid .first-is i h)
 joined-node {net} valid i v w h (backward p q) = subst (IsNode net) p (valid .second-is i h)
 
+-- a node is 0 metres from itself
+pub node-self : (net : Network) (u : ℕ) → nodeDistance net u u ≡ metres 0
+unfolding nodeDistance
+node-self net u = le-antisym (le-trans (through-direct net (net .nodes) u u) (le-of-eq (direct-self net u))) (zero-le (nodeDistance net u u))
+
+-- nodes that an edge joins are no further apart than its length
+pub node-edge : (net : Network) (u v i : ℕ) → i < edges net → Joins net i u v → Le (nodeDistance net u v) (metres (size net i))
+unfolding nodeDistance
+node-edge net u v i h j = le-trans (through-direct net (net .nodes) u v) (direct-le net u v i h j)
+
 -- no walk is shorter than the node distance
 node-below : {net : Network} → EndsAreNodes net → {u v n : ℕ} → Walk net u v n → Le (nodeDistance net u v) (metres n)
 unfolding nodeDistance plus
-node-below {net} valid (here {u = u}) = le-trans (through-direct net (net .nodes) u u) (le-of-eq (direct-self net u))
+node-below {net} valid (here {u = u}) = le-of-eq (node-self net u)
 node-below {net} valid (onward {u = u} {v = v} {w = w} {n = n} i h p j) =
     le-trans
     (through-triangle net (net .nodes) v (is-node .from-one) (is-node .to-nodes) u w)
-    (plus-monotone {d = metres n} {f = metres (size net i)} (node-below valid p) (le-trans (through-direct net (net .nodes) v w) (direct-le net v w i h j)))
+    (plus-monotone {d = metres n} {f = metres (size net i)} (node-below valid p) (node-edge net v w i h j))
   where
     is-node : IsNode net v
     is-node = joined-node valid i v w h j
@@ -183,10 +198,10 @@ unfolding nodeDistance
 node-distance net valid u v =
     is-least (Walk net u v) (nodeDistance net u v) (through-reached net (net .nodes) u v) (λ n w. node-below valid w)
 
--- a node is 0 metres from itself
-pub node-self : (net : Network) (u : ℕ) → nodeDistance net u u ≡ metres 0
-unfolding nodeDistance
-node-self net u = le-antisym (le-trans (through-direct net (net .nodes) u u) (le-of-eq (direct-self net u))) (zero-le (nodeDistance net u u))
+-- 01: what a bounded search gives is the least length over the walks no longer than the bound
+pub bounded-distance : (net : Network) → EndsAreNodes net → (bound u v : ℕ) → IsLeast (λ n. Walk net u v n × (n ≤ bound)) (boundedDistance net bound u v)
+unfolding boundedDistance
+bounded-distance net valid bound u v = least-bounded (node-distance net valid u v) bound
 
 -- the same both ways
 pub node-symmetric : (net : Network) → EndsAreNodes net → (u v : ℕ) → nodeDistance net u v ≡ nodeDistance net v u
@@ -199,11 +214,11 @@ node-triangle net valid u v w =
     least-le
     (node-distance net valid u w)
     (plus (nodeDistance net u v) (nodeDistance net v w))
-    (reached-plus
-    (Walk net u v)
-    (Walk net v w)
-    (Walk net u w)
-    (λ m n p q. walk-join p q)
+    (reached-join
+    net
+    u
+    v
+    w
     (nodeDistance net u v)
     (nodeDistance net v w)
     (least-reached (node-distance net valid u v))
