@@ -3,4 +3,6 @@ pub mod Distance
 pub mod Within
 pub mod Least
 pub mod NodeDistance
+pub mod Gaps
+pub mod Location
 pub mod Cases
