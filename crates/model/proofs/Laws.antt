@@ -6,3 +6,9 @@ pub mod NodeDistance
 pub mod Gaps
 pub mod Location
 pub mod Cases
+pub mod Counting
+pub mod Lists
+pub mod Rows
+pub mod Sorted
+pub mod Perimeter
+pub mod PairCount
