@@ -1,0 +1,14 @@
+//! A plain second implementation of the network K-function counts.
+//!
+//! It is written from the scope paper alone and proves nothing. It is here to
+//! compare the proved library with, and to time it against.
+
+#![forbid(unsafe_code)]
+
+pub mod counts;
+pub mod distance;
+pub mod lists;
+pub mod model;
+pub mod random;
+pub mod table;
+pub mod text;
