@@ -1,0 +1,62 @@
+-- The keys sorted and taken apart are the events sorted.
+use mathlib.Core.List.{map}
+use mathlib.Core.Path.{ap, _∙_}
+use Prim.Native.Nat.{ℕ, _<_}
+use lib.ListN.{getD}
+use Rattle.layout.specs.Sorting.{sortNumbers}
+use Rattle.layout.specs.Keys.{keyBase, edgeOf, offsetOf}
+use Rattle.layout.proofs.Laws.Keys.{sorted-parts}
+use borrow.Author.Needs.{needs}
+use Rattle.layout.proofs.laying_out.sort_events.Statement.{statement}
+use Rattle.layout.proofs.laying_out.sort_events.Tie as tie
+use Rattle.layout.proofs.laying_out.sort_events.Reads as reads
+use Rattle.layout.proofs.laying_out.sort_events.Lts as lts
+use Rattle.layout.proofs.keys.join.Reads as join-reads
+use Rattle.layout.proofs.keys.part.Reads as part-reads
+use Rattle.layout.proofs.merge_sort.sort.Reads as sort-reads
+
+-- src/laying_out.rt:21:5
+join-requires : tie.Need-join-requires
+join-requires c κs = search needs
+
+-- src/laying_out.rt:22:5
+sort-requires : tie.Need-sort-requires
+sort-requires c κs = search needs
+
+-- src/laying_out.rt:23:5
+part-requires : tie.Need-part-requires
+part-requires c κs = search needs
+
+-- src/laying_out.rt:17:1
+same-length : tie.Need-same-length
+same-length c = search needs
+
+-- src/laying_out.rt:17:1
+same-length-2 : tie.Need-same-length-2
+same-length-2 c = search needs
+
+-- src/laying_out.rt:17:1
+same-length-3 : tie.Need-same-length-3
+same-length-3 c = search needs
+
+-- src/laying_out.rt:17:1
+returns : tie.Need-returns
+returns c =
+    let keys = c .before .before .before .before .before .before .before .before .before .before .sort .ensures ∙ ap sortNumbers (c .before .before .before .before .before .before .before .before .before .before .before .before .before .before .join .ensures) in
+    let fits : (i : ℕ) → getD (c .before .before .before .before .before .before .before .before .before .before .before .before .before .before .before .before .before .before .before .before .before .args .offsets .now) i 0 < keyBase = λ i. c .before .before .before .before .before .before .before .before .before .before .before .before .before .before .before .before .before .before .before .slice-known2 .given i .fits in
+    record {
+      sorted-edges = c .before .before .before .before .part .ensures .0 ∙ ap (map edgeOf) keys ∙ sorted-parts (λ e. e .edge) _ _ fits;
+      sorted-offsets = c .before .before .before .before .part .ensures .1 ∙ ap (map offsetOf) keys ∙ sorted-parts (λ e. e .offset) _ _ fits;
+    }
+
+pub sort-events-spec : {M : Type 1} → statement M
+sort-events-spec =
+    tie.close
+    (tie.spec
+    join-requires
+    sort-requires
+    part-requires
+    same-length
+    same-length-2
+    same-length-3
+    returns)

@@ -1,0 +1,49 @@
+// Laying out one set.
+use crate::keys::join;
+use crate::keys::part;
+use crate::merge_sort::MAX_NUMBERS;
+use crate::merge_sort::sort;
+use model::Check;
+use model::EventSet;
+use model::MadeEventSet;
+ghost use mathlib.Core.Path.{_≡_};
+ghost use Rattle.model.specs.Checks.{layoutCheck};
+ghost use Rattle.layout.specs.Layout.{LaidOut, Fitting, SortedEvents};
+
+// Sorts the events by way of their keys.
+fn sort_events(edges: &mut [u32], offsets: &mut [u32], keys: &mut [u64])
+    requires { ⌜ Fitting (now edges) (now offsets) (now keys) ⌝ }
+    ensures { λ _. ⌜ SortedEvents (now (edges .entry)) (now (offsets .entry)) (now (edges .exit)) (now (offsets .exit)) ⌝ }
+{
+    join(edges, offsets, keys);
+    sort(keys);
+    part(keys, edges, offsets);
+}
+
+// 2 and 15.
+fn check_layout(edges: &[u32], offsets: &[u32]) -> Check
+    ensures { λ r. ⌜ r ≡ layoutCheck (now (edges .entry)) (now (offsets .entry)) ⌝ }
+{
+    if edges.len() != offsets.len() {
+        return Check::Refused(2, 0);
+    }
+    match EventSet::new(edges.len()) {
+        MadeEventSet::Made(_) => Check::Accepted,
+        MadeEventSet::Refused(number, place) => Check::Refused(number, place),
+    }
+}
+
+// Puts the events in rising order by edge and then by offset, repeats kept. Refuses lists of different lengths (2) and more
+// events than can be held (15), and leaves both lists as they were then.
+pub fn lay_out(edges: &mut [u32], offsets: &mut [u32]) -> Check
+    ensures { λ r. ⌜ LaidOut (now (edges .entry)) (now (offsets .entry)) r (now (edges .exit)) (now (offsets .exit)) ⌝ }
+{
+    let verdict = check_layout(edges, offsets);
+    if let Check::Refused(_, _) = verdict {
+        return verdict;
+    }
+    let n = edges.len();
+    let mut keys = [0u64; MAX_NUMBERS];
+    sort_events(edges, offsets, &mut keys[..n]);
+    verdict
+}
