@@ -1,4 +1,4 @@
--- What the promises of this crate cite: the order of numbers, events as keys, and what laying out leaves.
+-- Layout is the public promise; Sorting and Keys are cited by inner functions alone.
+pub mod Layout
 pub mod Sorting
 pub mod Keys
-pub mod Layout

@@ -1,14 +1,14 @@
 // Laying out one set.
 use crate::keys::join;
 use crate::keys::part;
-use crate::merge_sort::MAX_NUMBERS;
 use crate::merge_sort::sort;
 use model::Check;
 use model::EventSet;
 use model::MadeEventSet;
 ghost use mathlib.Core.Path.{_≡_};
 ghost use Rattle.model.specs.Checks.{layoutCheck};
-ghost use Rattle.layout.specs.Layout.{LaidOut, Fitting, SortedEvents};
+ghost use Rattle.layout.specs.Keys.{Fitting, SortedEvents};
+ghost use Rattle.layout.specs.Layout.{LaidOut};
 
 // Sorts the events by way of their keys.
 fn sort_events(edges: &mut [u32], offsets: &mut [u32], keys: &mut [u64])
@@ -43,7 +43,7 @@ pub fn lay_out(edges: &mut [u32], offsets: &mut [u32]) -> Check
         return verdict;
     }
     let n = edges.len();
-    let mut keys = [0u64; MAX_NUMBERS];
+    let mut keys = [0u64; EventSet::MAX_EVENTS];
     sort_events(edges, offsets, &mut keys[..n]);
     verdict
 }

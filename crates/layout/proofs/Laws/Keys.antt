@@ -1,13 +1,13 @@
 -- Keys stand for events, and their order for the order of events.
-use mathlib.Core.Bool.{Bool, true, false, not, cond, _&&_, _||_, or-true}
+use mathlib.Core.Bool.{Bool, true, false, not, or-true}
 use mathlib.Core.List.{List, [], _∷_, _++_, map, map-map}
 use mathlib.Core.Path.{_≡_, refl, sym, ap, ap₂, _∙_}
-use Prim.Native.Nat.{ℕ, zero, suc, _+_, _*_, _/_, _%_, _≤_, _<_}
+use Prim.Native.Nat.{ℕ, suc, _+_, _*_, _≤_, _<_}
 use native.Mathlib.Omega.{arith}
 use native.Mathlib.Numerals.{lt-of-le-of-ne}
-use lib.Dec.{leb, ltb, eqb}
+use lib.Dec.{leb, eqb}
 use lib.ListN.{length, take, drop, getD, set, drop-of-length-le}
-use borrow.Author.Tests.{le-leb, lt-leb, lt-ltb, le-ltb, eq-eqb, ne-eqb, leb-true, leb-false, ltb-true, ltb-false, eqb-true, eqb-false}
+use borrow.Author.Tests.{lt-ltb, le-ltb, leb-true, leb-false, eqb-true, eqb-false}
 use Rattle.model.specs.Events.{Event, event, events, before, insert, sorted}
 use Rattle.layout.proofs.Laws.Filling.{next-of, one-more, all-filled}
 use Rattle.layout.specs.Sorting.{insertNumber, sortNumbers}

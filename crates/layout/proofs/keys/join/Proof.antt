@@ -1,3 +1,4 @@
+-- The keys are those of the events passed; the events left give the rest.
 use mathlib.Core.List.{_++_, map}
 use mathlib.Core.Path.{_≡_, refl}
 use Prim.Native.Nat.{_≤_, _-_}
@@ -9,68 +10,55 @@ use Rattle.layout.specs.Keys.{keyOf}
 use Rattle.layout.proofs.Laws.Keys.{key-turn, keys-filled}
 use Rattle.layout.proofs.keys.join.Statement.{statement}
 use Rattle.layout.proofs.keys.join.Tie as tie
-use Rattle.layout.proofs.keys.join.Reads as reads
-use Rattle.layout.proofs.keys.join.Lts as lts
 
 abbrev Inv-loop : tie.InvT-loop
-Inv-loop edges offsets keys₀ i₀ keys i = (length keys ≡ length keys₀) × (i ≤ length keys) × (map keyOf (events edges offsets) ≡ take i keys ++ map keyOf (events (drop i edges) (drop i offsets)))
+Inv-loop edges offsets keys₀ i₀ keys i =
+    (length keys ≡ length keys₀)
+    × (i ≤ length keys)
+    × (map keyOf (events edges offsets) ≡ take i keys ++ map keyOf (events (drop i edges) (drop i offsets)))
 
 abbrev μ-loop : tie.MeasureT-loop
 μ-loop edges offsets keys₀ i₀ keys i = length keys - i
 
--- src/keys.rt:17:5
 loop-holds : tie.Need-loop-holds Inv-loop μ-loop
 loop-holds c = (search needs, search needs, refl)
 
--- src/keys.rt:18:20
 mul-keys : tie.Need-mul-keys Inv-loop μ-loop
 mul-keys c = omega arith
 
--- src/keys.rt:18:20
 shared-slice-read-keys : tie.Need-shared-slice-read-keys Inv-loop μ-loop
 shared-slice-read-keys c = omega arith
 
--- src/keys.rt:18:20
 cast-keys : tie.Need-cast-keys Inv-loop μ-loop
 cast-keys c = omega (arith, c .shared-slice-known .given (c .before .before .loop .i))
 
--- src/keys.rt:18:19
 mul-keys-2 : tie.Need-mul-keys-2 Inv-loop μ-loop
 mul-keys-2 c = omega (arith, c .shared-slice-known .given (c .before .before .loop .i))
 
--- src/keys.rt:18:47
 mul-keys-3 : tie.Need-mul-keys-3 Inv-loop μ-loop
 mul-keys-3 c = omega arith
 
--- src/keys.rt:18:47
 shared-slice-read-keys-2 : tie.Need-shared-slice-read-keys-2 Inv-loop μ-loop
 shared-slice-read-keys-2 c = omega arith
 
--- src/keys.rt:18:47
 cast-keys-2 : tie.Need-cast-keys-2 Inv-loop μ-loop
 cast-keys-2 c = omega (arith, c .shared-slice-known2 .given (c .before .before .before .loop .i))
 
--- src/keys.rt:18:19
 add-keys : tie.Need-add-keys Inv-loop μ-loop
 add-keys c = omega (arith, c .before .shared-slice-known .given (c .before .before .before .loop .i), c .shared-slice-known2 .given (c .before .before .before .loop .i))
 
--- src/keys.rt:18:9
 mul-keys-4 : tie.Need-mul-keys-4 Inv-loop μ-loop
 mul-keys-4 c = omega arith
 
--- src/keys.rt:18:9
 slice-write-keys : tie.Need-slice-write-keys Inv-loop μ-loop
 slice-write-keys c = omega arith
 
--- src/keys.rt:19:9
 add-i : tie.Need-add-i Inv-loop μ-loop
 add-i c = omega arith
 
--- src/keys.rt:17:5
 loop-less : tie.Need-loop-less Inv-loop μ-loop
 loop-less c = simp length-set (omega arith)
 
--- src/keys.rt:17:5
 loop-again : tie.Need-loop-again Inv-loop μ-loop
 loop-again c = (
   simp length-set (omega arith),
@@ -82,11 +70,9 @@ loop-again c = (
       (c .before .before .before .loop .inv .2),
 )
 
--- src/keys.rt:12:1
 same-length : tie.Need-same-length Inv-loop μ-loop
 same-length c = search needs
 
--- src/keys.rt:12:1
 returns : tie.Need-returns Inv-loop μ-loop
 returns c =
     keys-filled (c .before .before .args .edges .now) (c .before .before .args .offsets .now) (c .before .loop .keys) (c .before .loop .i)

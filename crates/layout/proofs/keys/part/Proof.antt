@@ -1,3 +1,4 @@
+-- Each list is what the keys passed say; the keys left say the rest.
 use mathlib.Core.List.{_++_, map}
 use mathlib.Core.Path.{_≡_, refl}
 use Prim.Native.Nat.{_≤_, _-_}
@@ -8,68 +9,57 @@ use Rattle.layout.specs.Keys.{edgeOf, offsetOf}
 use Rattle.layout.proofs.Laws.Filling.{map-turn, map-filled}
 use Rattle.layout.proofs.keys.part.Statement.{statement}
 use Rattle.layout.proofs.keys.part.Tie as tie
-use Rattle.layout.proofs.keys.part.Reads as reads
-use Rattle.layout.proofs.keys.part.Lts as lts
 
 abbrev Inv-loop : tie.InvT-loop
-Inv-loop keys edges₀ offsets₀ i₀ edges offsets i = (length edges ≡ length edges₀) × (length offsets ≡ length offsets₀) × (i ≤ length keys) × (map edgeOf keys ≡ take i edges ++ map edgeOf (drop i keys)) × (map offsetOf keys ≡ take i offsets ++ map offsetOf (drop i keys))
+Inv-loop keys edges₀ offsets₀ i₀ edges offsets i =
+    (length edges ≡ length edges₀)
+    × (length offsets ≡ length offsets₀)
+    × (i ≤ length keys)
+    × (map edgeOf keys ≡ take i edges ++ map edgeOf (drop i keys))
+    × (map offsetOf keys ≡ take i offsets ++ map offsetOf (drop i keys))
 
 abbrev μ-loop : tie.MeasureT-loop
 μ-loop keys edges₀ offsets₀ i₀ edges offsets i = length keys - i
 
--- src/keys.rt:29:5
 loop-holds : tie.Need-loop-holds Inv-loop μ-loop
 loop-holds c = (search needs, search needs, search needs, refl, refl)
 
--- src/keys.rt:30:21
 mul-edges : tie.Need-mul-edges Inv-loop μ-loop
 mul-edges c = omega arith
 
--- src/keys.rt:30:21
 shared-slice-read-edges : tie.Need-shared-slice-read-edges Inv-loop μ-loop
 shared-slice-read-edges c = omega arith
 
--- src/keys.rt:30:20
 cast-edges : tie.Need-cast-edges Inv-loop μ-loop
 cast-edges c = omega (arith, c .shared-slice-known .given (c .before .before .loop .i))
 
--- src/keys.rt:30:9
 mul-edges-2 : tie.Need-mul-edges-2 Inv-loop μ-loop
 mul-edges-2 c = omega arith
 
--- src/keys.rt:30:9
 slice-write-edges : tie.Need-slice-write-edges Inv-loop μ-loop
 slice-write-edges c = omega arith
 
--- src/keys.rt:31:23
 mul-offsets : tie.Need-mul-offsets Inv-loop μ-loop
 mul-offsets c = omega arith
 
--- src/keys.rt:31:23
 shared-slice-read-offsets : tie.Need-shared-slice-read-offsets Inv-loop μ-loop
 shared-slice-read-offsets c = omega arith
 
--- src/keys.rt:31:22
 cast-offsets : tie.Need-cast-offsets Inv-loop μ-loop
-cast-offsets c = omega arith
+cast-offsets c = omega (arith, c .shared-slice-known2 .given (c .before .before .before .loop .i))
 
--- src/keys.rt:31:9
 mul-offsets-2 : tie.Need-mul-offsets-2 Inv-loop μ-loop
 mul-offsets-2 c = omega arith
 
--- src/keys.rt:31:9
 slice-write-offsets : tie.Need-slice-write-offsets Inv-loop μ-loop
 slice-write-offsets c = omega arith
 
--- src/keys.rt:32:9
 add-i : tie.Need-add-i Inv-loop μ-loop
 add-i c = omega arith
 
--- src/keys.rt:29:5
 loop-less : tie.Need-loop-less Inv-loop μ-loop
 loop-less c = omega arith
 
--- src/keys.rt:29:5
 loop-again : tie.Need-loop-again Inv-loop μ-loop
 loop-again c = (
   simp length-set (omega arith),
@@ -79,15 +69,12 @@ loop-again c = (
   map-turn offsetOf (c .before .before .before .before .args .keys .now) (c .before .before .before .loop .offsets) (c .before .before .before .loop .i) (omega arith) (omega arith) (c .before .before .before .loop .inv .4),
 )
 
--- src/keys.rt:24:1
 same-length : tie.Need-same-length Inv-loop μ-loop
 same-length c = search needs
 
--- src/keys.rt:24:1
 same-length-2 : tie.Need-same-length-2 Inv-loop μ-loop
 same-length-2 c = search needs
 
--- src/keys.rt:24:1
 returns : tie.Need-returns Inv-loop μ-loop
 returns c = (
   map-filled edgeOf (c .before .before .args .keys .now) (c .before .loop .edges) (c .before .loop .i) (omega arith) (omega arith) (c .before .loop .inv .3),

@@ -4,32 +4,23 @@ use Rattle.layout.proofs.Laws.Verdict.{checkOf, refused-lengths, size-d
 use borrow.Author.Needs.{needs}
 use Rattle.layout.proofs.laying_out.check_layout.Statement.{statement}
 use Rattle.layout.proofs.laying_out.check_layout.Tie as tie
-use Rattle.layout.proofs.laying_out.check_layout.Reads as reads
-use Rattle.layout.proofs.laying_out.check_layout.Lts as lts
-use Rattle.model.proofs.event_set.EventSet.new.Reads as new-reads
 
--- src/laying_out.rt:28:9
 returns : tie.Need-returns
 returns c = refused-lengths _ _ (c .if1 .taken)
 
--- src/laying_out.rt:30:11
 new-requires : tie.Need-new-requires
 new-requires c κs = search needs
 
--- src/laying_out.rt:31:34
 enum-told : tie.Need-enum-told
 enum-told c = search needs
 
--- src/laying_out.rt:32:31
 enum-known-number : tie.Need-enum-known-number
 enum-known-number c = search needs
 
--- src/laying_out.rt:24:1
 returns-2 : tie.Need-returns-2
 unfolding checkOf
 returns-2 c = ap checkOf (sym (c .enum-told .given .1) ∙ c .before .before .new .ensures) ∙ size-decides _ _ (c .before .before .before .if1 .left)
 
--- src/laying_out.rt:24:1
 returns-3 : tie.Need-returns-3
 unfolding checkOf
 returns-3 c = ap checkOf (sym (c .before .number .given .1) ∙ c .before .before .before .new .ensures) ∙ size-decides _ _ (c .before .before .before .before .if1 .left)

@@ -1,36 +1,25 @@
 -- The verdict is the check's; on acceptance the events sorted fill both lists.
-use mathlib.Core.List.{map}
-use mathlib.Core.Path.{_≡_, sym, ap, _∙_}
+use mathlib.Core.Path.{_≡_, sym, _∙_}
 use Prim.Native.Nat.{_≤_}
-use native.Mathlib.Omega.{arith}
-use lib.ListN.{length, length-take}
+use lib.ListN.{length}
 use lib.Seq.{length-take-le}
 use Rattle.layout.proofs.Laws.Verdict.{accepted-lists, written-refused, written-all}
 use borrow.Author.Needs.{needs}
 use Rattle.layout.proofs.laying_out.lay_out.Statement.{statement}
 use Rattle.layout.proofs.laying_out.lay_out.Tie as tie
-use Rattle.layout.proofs.laying_out.lay_out.Reads as reads
-use Rattle.layout.proofs.laying_out.lay_out.Lts as lts
-use Rattle.layout.proofs.laying_out.check_layout.Reads as check-layout-reads
-use Rattle.layout.proofs.laying_out.sort_events.Reads as sort-events-reads
 
--- src/laying_out.rt:41:9
 check-layout-requires : tie.Need-check-layout-requires
 check-layout-requires c κs = search needs
 
--- src/laying_out.rt:43:9
 enum-told : tie.Need-enum-told
 enum-told c = search needs
 
--- src/laying_out.rt:43:9
 same-length : tie.Need-same-length
 same-length c = search needs
 
--- src/laying_out.rt:43:9
 same-length-2 : tie.Need-same-length-2
 same-length-2 c = search needs
 
--- src/laying_out.rt:43:9
 returns : tie.Need-returns
 returns c =
     let e = sym (c .before .before .check-layout .ensures) ∙ c .enum-told .given .1 in
@@ -47,15 +36,12 @@ enum-told-2 c = search needs
 fitting : (c : tie.After-enum-told2) → (length (c .before .before .before .before .before .before .before .args .edges .now) ≡ length (c .before .before .before .before .before .before .before .args .offsets .now)) × (length (c .before .before .before .before .before .before .before .args .edges .now) ≤ 8192)
 fitting c = accepted-lists _ _ (sym (c .before .before .check-layout .ensures) ∙ c .enum-told2 .given .1)
 
--- src/laying_out.rt:47:33
 array-borrow-prefix-keys : tie.Need-array-borrow-prefix-keys
 array-borrow-prefix-keys c = fitting (c .before .before) .1
 
--- src/laying_out.rt:47:33
 slice-aggregate-sort-events : tie.Need-slice-aggregate-sort-events
 slice-aggregate-sort-events c = sym (length-take-le (length (c .before .before .before .before .before .before .before .before .before .before .args .edges .now)) _ (fitting (c .before .before .before) .1))
 
--- src/laying_out.rt:47:5
 sort-events-requires : tie.Need-sort-events-requires
 sort-events-requires c κs =
     record {
@@ -64,15 +50,12 @@ sort-events-requires c κs =
       few = fitting (c .before .before .before) .1;
     }
 
--- src/laying_out.rt:38:1
 same-length-3 : tie.Need-same-length-3
 same-length-3 c = search needs
 
--- src/laying_out.rt:38:1
 same-length-4 : tie.Need-same-length-4
 same-length-4 c = search needs
 
--- src/laying_out.rt:38:1
 returns-2 : tie.Need-returns-2
 returns-2 c =
     let accepted = sym (c .before .before .before .before .before .before .before .before .before .before .before .check-layout .ensures) ∙ c .before .before .before .before .before .before .before .before .before .enum-told2 .given .1 in

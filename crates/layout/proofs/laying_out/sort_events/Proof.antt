@@ -9,37 +9,25 @@ use Rattle.layout.proofs.Laws.Keys.{sorted-parts}
 use borrow.Author.Needs.{needs}
 use Rattle.layout.proofs.laying_out.sort_events.Statement.{statement}
 use Rattle.layout.proofs.laying_out.sort_events.Tie as tie
-use Rattle.layout.proofs.laying_out.sort_events.Reads as reads
-use Rattle.layout.proofs.laying_out.sort_events.Lts as lts
-use Rattle.layout.proofs.keys.join.Reads as join-reads
-use Rattle.layout.proofs.keys.part.Reads as part-reads
-use Rattle.layout.proofs.merge_sort.sort.Reads as sort-reads
 
--- src/laying_out.rt:21:5
 join-requires : tie.Need-join-requires
 join-requires c κs = search needs
 
--- src/laying_out.rt:22:5
 sort-requires : tie.Need-sort-requires
 sort-requires c κs = search needs
 
--- src/laying_out.rt:23:5
 part-requires : tie.Need-part-requires
 part-requires c κs = search needs
 
--- src/laying_out.rt:17:1
 same-length : tie.Need-same-length
 same-length c = search needs
 
--- src/laying_out.rt:17:1
 same-length-2 : tie.Need-same-length-2
 same-length-2 c = search needs
 
--- src/laying_out.rt:17:1
 same-length-3 : tie.Need-same-length-3
 same-length-3 c = search needs
 
--- src/laying_out.rt:17:1
 returns : tie.Need-returns
 returns c =
     let keys = c .before .before .before .before .before .before .before .before .before .before .sort .ensures ∙ ap sortNumbers (c .before .before .before .before .before .before .before .before .before .before .before .before .before .before .join .ensures) in
