@@ -1,8 +1,12 @@
 -- The verdict is the check's; on acceptance the events sorted fill both lists.
+use mathlib.Core.List.{List}
 use mathlib.Core.Path.{_≡_, sym, _∙_}
-use Prim.Native.Nat.{_≤_}
+use Prim.Native.Nat.{ℕ, _≤_}
 use lib.ListN.{length}
 use lib.Seq.{length-take-le}
+use Rattle.model.specs.declared.check.Check.the-variants.{Accepted}
+use Rattle.model.specs.Limits.{maxEvents}
+use Rattle.model.specs.Checks.{layoutCheck}
 use Rattle.layout.proofs.Laws.Verdict.{accepted-lists, written-refused, written-all}
 use borrow.Author.Needs.{needs}
 use Rattle.layout.proofs.laying_out.lay_out.Statement.{statement}
@@ -33,21 +37,32 @@ enum-told-2 : tie.Need-enum-told-2
 enum-told-2 c = search needs
 
 -- past the check the lists are as long as each other, and short enough
-fitting : (c : tie.After-enum-told2) → (length (c .before .before .before .before .before .before .before .args .edges .now) ≡ length (c .before .before .before .before .before .before .before .args .offsets .now)) × (length (c .before .before .before .before .before .before .before .args .edges .now) ≤ 8192)
-fitting c = accepted-lists _ _ (sym (c .before .before .check-layout .ensures) ∙ c .enum-told2 .given .1)
+module _ (c : tie.After-enum-told2) where
+  abbrev edges : List ℕ
+  edges = c .before .before .before .before .before .before .before .args .edges .now
+
+  abbrev offsets : List ℕ
+  offsets = c .before .before .before .before .before .before .before .args .offsets .now
+
+  accepted : layoutCheck edges offsets ≡ Accepted
+  accepted = sym (c .before .before .check-layout .ensures) ∙ c .enum-told2 .given .1
+
+  fitting : (length edges ≡ length offsets) × (length edges ≤ maxEvents)
+  fitting = accepted-lists edges offsets accepted
 
 array-borrow-prefix-keys : tie.Need-array-borrow-prefix-keys
 array-borrow-prefix-keys c = fitting (c .before .before) .1
 
 slice-aggregate-sort-events : tie.Need-slice-aggregate-sort-events
-slice-aggregate-sort-events c = sym (length-take-le (length (c .before .before .before .before .before .before .before .before .before .before .args .edges .now)) _ (fitting (c .before .before .before) .1))
+slice-aggregate-sort-events c = sym (length-take-le (length (edges (c .before .before .before))) _ (fitting (c .before .before .before) .1))
 
 sort-events-requires : tie.Need-sort-events-requires
 sort-events-requires c κs =
+    let checked = c .before .before .before in
     record {
-      same-offsets = sym (fitting (c .before .before .before) .0);
-      same-keys = length-take-le (length (c .before .before .before .before .before .before .before .before .before .before .args .edges .now)) _ (fitting (c .before .before .before) .1);
-      few = fitting (c .before .before .before) .1;
+      same-offsets = sym (fitting checked .0);
+      same-keys = length-take-le (length (edges checked)) _ (fitting checked .1);
+      few = fitting checked .1;
     }
 
 same-length-3 : tie.Need-same-length-3
@@ -58,11 +73,12 @@ same-length-4 c = search needs
 
 returns-2 : tie.Need-returns-2
 returns-2 c =
-    let accepted = sym (c .before .before .before .before .before .before .before .before .before .before .before .check-layout .ensures) ∙ c .before .before .before .before .before .before .before .before .before .enum-told2 .given .1 in
+    let after-sort = c .before .before .before .before .before in
+    let checked = after-sort .before .before .before .before in
     record {
-      verdict = c .before .before .before .before .before .before .before .before .before .before .before .check-layout .ensures;
-      edges-after = written-all _ _ _ accepted (c .before .before .before .before .before .sort-events .ensures .sorted-edges) (c .before .before .before .before .before .sort-events .kept .0);
-      offsets-after = written-all _ _ _ accepted (c .before .before .before .before .before .sort-events .ensures .sorted-offsets) (c .before .before .before .before .before .sort-events .kept .1 .0);
+      verdict = checked .before .before .check-layout .ensures;
+      edges-after = written-all _ _ _ (accepted checked) (after-sort .sort-events .ensures .sorted-edges) (after-sort .sort-events .kept .0);
+      offsets-after = written-all _ _ _ (accepted checked) (after-sort .sort-events .ensures .sorted-offsets) (after-sort .sort-events .kept .1 .0);
     }
 
 pub lay-out-spec : {M : Type 1} → statement M

@@ -30,11 +30,15 @@ same-length-3 c = search needs
 
 returns : tie.Need-returns
 returns c =
-    let keys = c .before .before .before .before .before .before .before .before .before .before .sort .ensures ∙ ap sortNumbers (c .before .before .before .before .before .before .before .before .before .before .before .before .before .before .join .ensures) in
-    let fits : (i : ℕ) → getD (c .before .before .before .before .before .before .before .before .before .before .before .before .before .before .before .before .before .before .before .before .before .args .offsets .now) i 0 < keyBase = λ i. c .before .before .before .before .before .before .before .before .before .before .before .before .before .before .before .before .before .before .before .slice-known2 .given i .fits in
+    let after-part = c .before .before .before .before in
+    let after-sort = after-part .before .before .before .before .before .before in
+    let after-join = after-sort .before .before .before .before in
+    let known = after-join .before .before .before .before .before in
+    let keys = after-sort .sort .ensures ∙ ap sortNumbers (after-join .join .ensures) in
+    let fits : (i : ℕ) → getD (known .before .before .args .offsets .now) i 0 < keyBase = λ i. known .slice-known2 .given i .fits in
     record {
-      sorted-edges = c .before .before .before .before .part .ensures .0 ∙ ap (map edgeOf) keys ∙ sorted-parts (λ e. e .edge) _ _ fits;
-      sorted-offsets = c .before .before .before .before .part .ensures .1 ∙ ap (map offsetOf) keys ∙ sorted-parts (λ e. e .offset) _ _ fits;
+      sorted-edges = after-part .part .ensures .0 ∙ ap (map edgeOf) keys ∙ sorted-parts (λ e. e .edge) _ _ fits;
+      sorted-offsets = after-part .part .ensures .1 ∙ ap (map offsetOf) keys ∙ sorted-parts (λ e. e .offset) _ _ fits;
     }
 
 pub sort-events-spec : {M : Type 1} → statement M
