@@ -12,3 +12,5 @@ pub mod Rows
 pub mod Sorted
 pub mod Perimeter
 pub mod PairCount
+pub mod Refusal
+pub mod Checks

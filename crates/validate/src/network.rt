@@ -1,0 +1,141 @@
+// Refusals 2 and 6 to 9: the lists of a network.
+ghost use mathlib.Core.Path.{_≡_};
+ghost use mathlib.Core.Bool.{_&&_};
+ghost use lib.ListN.{length};
+ghost use Rattle.model.specs.Network.{network};
+ghost use Rattle.model.specs.Refusal.{isBetween, orElse};
+ghost use Rattle.validate.specs.Part.{withNodes, withLengths, withEdges};
+ghost use Rattle.model.specs.Checks.{networkLists, networkValues, sizesCheck, nodesCheck, selfCheck, lengthsCheck, loneNodeCheck};
+use crate::number::BAD_LENGTH;
+use crate::number::BAD_NODE;
+use crate::number::SELF_JOINED;
+use crate::number::names_one;
+use crate::number::same_length;
+use model::Check;
+use model::MadeNetwork;
+use model::Network;
+
+// 2.
+pub fn check_lists(firsts: &[u32], seconds: &[u32], lengths: &[u32]) -> Check
+    ensures { λ r. ⌜ r ≡ networkLists (withEdges (now (firsts .entry)) (now (seconds .entry)) (now (lengths .entry))) ⌝ }
+{
+    let firsts_differ = same_length(firsts, lengths);
+    if let Check::Refused(_, _) = firsts_differ {
+        return firsts_differ;
+    }
+    same_length(seconds, lengths)
+}
+
+// 6: nodes or edges outside their limits.
+fn check_sizes(nodes: u32, edges: usize) -> Check
+    ensures { λ r. ⌜ r ≡ sizesCheck nodes edges ⌝ }
+{
+    match Network::new(nodes, edges) {
+        MadeNetwork::Made(_) => Check::Accepted,
+        MadeNetwork::Refused(number, place) => Check::Refused(number, place),
+    }
+}
+
+// Both numbers name nodes.
+fn are_nodes(nodes: u32, u: u32, v: u32) -> bool
+    ensures { λ r. ⌜ r ≡ isBetween 1 nodes u && isBetween 1 nodes v ⌝ }
+{
+    if !names_one(nodes as u64, u) {
+        return false;
+    }
+    names_one(nodes as u64, v)
+}
+
+// 7: an edge ends at no node.
+fn check_ends(nodes: u32, firsts: &[u32], seconds: &[u32], lengths: &[u32]) -> Check
+    requires { ⌜ (length (now firsts) ≡ length (now lengths)) × (length (now seconds) ≡ length (now lengths)) ⌝ }
+    ensures { λ r. ⌜ r ≡ nodesCheck (network nodes (now (firsts .entry)) (now (seconds .entry)) (now (lengths .entry))) ⌝ }
+{
+    let mut k = 0;
+    while k < lengths.len() {
+        if !are_nodes(nodes, firsts[k], seconds[k]) {
+            return Check::Refused(BAD_NODE, k);
+        }
+        k += 1;
+    }
+    Check::Accepted
+}
+
+// 8: an edge joins a node to itself.
+fn check_different(firsts: &[u32], seconds: &[u32], lengths: &[u32]) -> Check
+    requires { ⌜ (length (now firsts) ≡ length (now lengths)) × (length (now seconds) ≡ length (now lengths)) ⌝ }
+    ensures { λ r. ⌜ r ≡ selfCheck (withEdges (now (firsts .entry)) (now (seconds .entry)) (now (lengths .entry))) ⌝ }
+{
+    let mut k = 0;
+    while k < lengths.len() {
+        if firsts[k] == seconds[k] {
+            return Check::Refused(SELF_JOINED, k);
+        }
+        k += 1;
+    }
+    Check::Accepted
+}
+
+// 9: a length outside its limits.
+fn check_lengths(lengths: &[u32]) -> Check
+    ensures { λ r. ⌜ r ≡ lengthsCheck (withLengths (now (lengths .entry))) ⌝ }
+{
+    let mut k = 0;
+    while k < lengths.len() {
+        if !Network::is_length(lengths[k]) {
+            return Check::Refused(BAD_LENGTH, k);
+        }
+        k += 1;
+    }
+    Check::Accepted
+}
+
+// 7 for a lone node.
+fn check_lone_node(nodes: u32, v: u32) -> Check
+    ensures { λ r. ⌜ r ≡ loneNodeCheck (withNodes nodes) v ⌝ }
+{
+    if !names_one(nodes as u64, v) {
+        return Check::Refused(BAD_NODE, 0);
+    }
+    Check::Accepted
+}
+
+// 7 for two lone nodes.
+pub fn check_lone_nodes(nodes: u32, u: u32, v: u32) -> Check
+    ensures { λ r. ⌜ r ≡ orElse (loneNodeCheck (withNodes nodes) u) (loneNodeCheck (withNodes nodes) v) ⌝ }
+{
+    let first = check_lone_node(nodes, u);
+    if let Check::Refused(_, _) = first {
+        return first;
+    }
+    check_lone_node(nodes, v)
+}
+
+// 6 to 9; lone is what the check of lone nodes said.
+pub fn check_values(
+    lone: Check,
+    nodes: u32,
+    firsts: &[u32],
+    seconds: &[u32],
+    lengths: &[u32],
+) -> Check
+    requires { ⌜ (length (now firsts) ≡ length (now lengths)) × (length (now seconds) ≡ length (now lengths)) ⌝ }
+    ensures { λ r. ⌜ r ≡ networkValues lone (network nodes (now (firsts .entry)) (now (seconds .entry)) (now (lengths .entry))) ⌝ }
+{
+    let sizes = check_sizes(nodes, lengths.len());
+    if let Check::Refused(_, _) = sizes {
+        return sizes;
+    }
+    if let Check::Refused(_, _) = lone {
+        return lone;
+    }
+    let ends = check_ends(nodes, firsts, seconds, lengths);
+    if let Check::Refused(_, _) = ends {
+        return ends;
+    }
+    let different = check_different(firsts, seconds, lengths);
+    if let Check::Refused(_, _) = different {
+        return different;
+    }
+    check_lengths(lengths)
+}
