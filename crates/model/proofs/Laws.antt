@@ -13,4 +13,5 @@ pub mod Sorted
 pub mod Perimeter
 pub mod PairCount
 pub mod Refusal
+pub mod CheckParts
 pub mod Checks

@@ -1,49 +1,232 @@
--- What acceptance by each check means: what every crate above rests on.
+-- What acceptance by the checks put together means: every crate above rests on it.
 use mathlib.Core.List.{List}
-use mathlib.Core.Path.{_≡_}
-use Prim.Native.Nat.{ℕ, _≤_, _<_}
-use borrow.Author.Tests.{eqb-true, leb-true}
-use lib.Dec.{eqb, leb}
-use lib.ListN.{length, getD}
+use mathlib.Core.Logic.{⊎-elim}
+use mathlib.Core.Path.{_≡_, refl}
+use Prim.Native.Nat.{ℕ, zero, suc, pred, _≤_, _<_}
+use native.Mathlib.Nat.{eq-or-lt-of-le}
 use native.Mathlib.Omega.{arith}
+use lib.ListN.{length, getD}
+use Rattle.model.proofs.Laws.Refusal.{Between, both-accepted, both-accept}
+use Rattle.model.specs.Checks.{networkLists, eventLists, networkValues, networkCheck, nodesOverNetworkCheck, locationsOverNetworkCheck, eventValues, setCheck, laidOutCheck, setsOverNetworkCheck, thresholdsCheck, layoutCheck}
+use Rattle.model.specs.Events.{event, events, IsEvent, InOrder, setSize, greatestSet}
+use Rattle.model.specs.Limits.{maxNodes, maxEdges, maxLength, maxEvents, maxSet, maxThresholds}
+use Rattle.model.specs.Network.{Network, IsNode, EndsAreNodes, edges, first, second, size}
 use Rattle.model.specs.declared.check.Check.{Check}
 use Rattle.model.specs.declared.check.Check.the-variants.{Accepted}
-use Rattle.model.specs.Limits.{maxSet}
-use Rattle.model.specs.Network.{Network, edges, first, second, size}
-use Rattle.model.specs.Refusal.{firstBad, firstBadFrom, isBetween, listsDiffer, noEdge, badSet}
-use Rattle.model.specs.Checks.{sameLength, networkLists, loneEdgeCheck, edgesCheck, setsCheck, setLists, eventLists}
-use Rattle.model.proofs.Laws.Refusal.{Between, both-accepted, unless-accepted, between-true, good-at}
+use Rattle.model.proofs.Laws.CheckParts as part
 
--- 2: the lists have one length
-pub same-length-accepted : (xs ys : List ℕ) → sameLength xs ys ≡ Accepted → length xs ≡ length ys
-unfolding sameLength
-same-length-accepted xs ys e = eqb-true _ _ (unless-accepted (eqb (length xs) (length ys)) listsDiffer 0 e)
+-- a network within its limits: what 2 and 6 to 9 leave
+pub record IsNetwork (net : Network) : Type 0 where
+  pub firsts-length : length (net .firsts) ≡ edges net
+  pub seconds-length : length (net .seconds) ≡ edges net
+  pub nodes-from : 1 ≤ net .nodes
+  pub nodes-to : net .nodes ≤ maxNodes
+  pub edges-from : 1 ≤ edges net
+  pub edges-to : edges net ≤ maxEdges
+  pub ends : EndsAreNodes net
+  pub different : (i : ℕ) → i < edges net → first net i ≡ second net i → ⊥
+  pub length-from : (i : ℕ) → i < edges net → 1 ≤ size net i
+  pub length-to : (i : ℕ) → i < edges net → size net i ≤ maxLength
 
-pub lists-accepted : (net : Network) → networkLists net ≡ Accepted → (length (net .firsts) ≡ edges net) × (length (net .seconds) ≡ edges net)
-unfolding networkLists
-lists-accepted net e =
-    let both = both-accepted (sameLength (net .firsts) (net .lengths)) (sameLength (net .seconds) (net .lengths)) e in
-    (same-length-accepted (net .firsts) (net .lengths) (both .0), same-length-accepted (net .seconds) (net .lengths) (both .1))
+-- the lists and the values of a network, with the check of lone nodes between them
+record Values (lone : Check) (net : Network) : Type 0 where
+  is-network : IsNetwork net
+  lone-accepted : lone ≡ Accepted
 
-pub set-lists-accepted : (sets es xs : List ℕ) → setLists sets es xs ≡ Accepted → (length sets ≡ length es) × (length es ≡ length xs)
-unfolding setLists eventLists
-set-lists-accepted sets es xs e =
-    let both = both-accepted (sameLength sets es) (sameLength es xs) e in
-    (same-length-accepted sets es (both .0), same-length-accepted es xs (both .1))
+values-accepted : (lone : Check) (net : Network) → networkLists net ≡ Accepted → networkValues lone net ≡ Accepted → Values lone net
+unfolding networkValues
+values-accepted lone net lists e =
+    let of-lists = part.lists-accepted net lists in
+    let from-6 = both-accepted _ _ e in
+    let from-lone = both-accepted _ _ (from-6 .1) in
+    let from-7 = both-accepted _ _ (from-lone .1) in
+    let from-8 = both-accepted _ _ (from-7 .1) in
+    let sizes = part.sizes-accepted _ _ (from-6 .0) in
+    let long = part.lengths-accepted net (from-8 .1) in
+    record {
+      is-network = record {
+        firsts-length = of-lists .0;
+        seconds-length = of-lists .1;
+        nodes-from = sizes .0 .from;
+        nodes-to = sizes .0 .to;
+        edges-from = sizes .1 .from;
+        edges-to = sizes .1 .to;
+        ends = part.ends-accepted net (from-7 .0);
+        different = part.different-accepted net (from-8 .0);
+        length-from = λ i h. long i h .from;
+        length-to = λ i h. long i h .to;
+      };
+      lone-accepted = from-lone .0;
+    }
 
--- 13: every edge number names an edge
-pub lone-edge-accepted : (net : Network) (edge : ℕ) → loneEdgeCheck net edge ≡ Accepted → Between 1 (edges net) edge
-unfolding loneEdgeCheck
-lone-edge-accepted net edge e = between-true 1 (edges net) edge (unless-accepted (isBetween 1 (edges net) edge) noEdge 0 e)
+pub network-accepted : (net : Network) → networkCheck net ≡ Accepted → IsNetwork net
+unfolding networkCheck
+network-accepted net e =
+    let both = both-accepted _ _ e in
+    values-accepted Accepted net (both .0) (both .1) .is-network
 
-pub edges-accepted : (net : Network) (es : List ℕ) → edgesCheck net es ≡ Accepted → (k : ℕ) → k < length es → Between 1 (edges net) (getD es k 0)
-unfolding edgesCheck firstBad
-edges-accepted net es e k h =
-    between-true 1 (edges net) (getD es k 0)
-    (good-at noEdge (λ k. isBetween 1 (edges net) (getD es k 0)) 0 (length es) e k (omega arith) (omega arith))
+-- and back: nothing else is refused
+pub network-accepts : (net : Network) → IsNetwork net → networkCheck net ≡ Accepted
+unfolding networkCheck networkValues
+network-accepts net n =
+    both-accept (part.lists-accept net (n .firsts-length) (n .seconds-length))
+    (both-accept (part.sizes-accept _ _ (record { from = n .nodes-from; to = n .nodes-to }) (record { from = n .edges-from; to = n .edges-to }))
+    (both-accept refl
+    (both-accept (part.ends-accept net (n .ends))
+    (both-accept (part.different-accept net (n .different))
+    (part.lengths-accept net (λ i h. record { from = n .length-from i h; to = n .length-to i h }))))))
 
--- 12: every set number is up to the limit
-pub set-numbers-accepted : (sets : List ℕ) → setsCheck sets ≡ Accepted → (k : ℕ) → k < length sets → getD sets k 0 ≤ maxSet
-unfolding setsCheck firstBad
-set-numbers-accepted sets e k h =
-    leb-true _ _ (good-at badSet (λ k. leb (getD sets k 0) maxSet) 0 (length sets) e k (omega arith) (omega arith))
+-- a network and two lone nodes
+pub record NodesAccepted (net : Network) (u v : ℕ) : Type 0 where
+  pub is-network : IsNetwork net
+  pub first-node : IsNode net u
+  pub second-node : IsNode net v
+
+pub nodes-accepted : (net : Network) (u v : ℕ) → nodesOverNetworkCheck net u v ≡ Accepted → NodesAccepted net u v
+unfolding nodesOverNetworkCheck
+nodes-accepted net u v e =
+    let both = both-accepted _ _ e in
+    let values = values-accepted _ net (both .0) (both .1) in
+    let lone = both-accepted _ _ (values .lone-accepted) in
+    record {
+      is-network = values .is-network;
+      first-node = part.lone-node-accepted net u (lone .0);
+      second-node = part.lone-node-accepted net v (lone .1);
+    }
+
+-- a network and two lone locations, each an edge number and an offset
+pub record LocationsAccepted (net : Network) (e x f y : ℕ) : Type 0 where
+  pub is-network : IsNetwork net
+  pub first-location : IsEvent net (event e x)
+  pub second-location : IsEvent net (event f y)
+
+-- an edge number and an offset that 13 and 14 leave
+on-edge : (net : Network) (e x : ℕ) → Between 1 (edges net) e → x ≤ size net (pred e) → IsEvent net (event e x)
+on-edge net e x named within = record { from-one = named .from; to-edges = named .to; on-edge = within }
+
+pub locations-accepted : (net : Network) (e x f y : ℕ) → locationsOverNetworkCheck net e x f y ≡ Accepted → LocationsAccepted net e x f y
+unfolding locationsOverNetworkCheck
+locations-accepted net e x f y h =
+    let lone = both-accepted _ _ h in
+    let named-e = both-accepted _ _ (lone .1) in
+    let named-f = both-accepted _ _ (named-e .1) in
+    let offsets = both-accepted _ _ (named-f .1) in
+    record {
+      is-network = network-accepted net (lone .0);
+      first-location = on-edge net e x (part.lone-edge-accepted net e (named-e .0)) (part.lone-offset-accepted net e x (offsets .0));
+      second-location = on-edge net f y (part.lone-edge-accepted net f (named-f .0)) (part.lone-offset-accepted net f y (offsets .1));
+    }
+
+-- the events of an edge list and an offset list: what 2 and 13 to 15 leave
+pub record AreEvents (net : Network) (es xs : List ℕ) : Type 0 where
+  pub same-length : length es ≡ length xs
+  pub event-at : (k : ℕ) → k < length es → IsEvent net (event (getD es k 0) (getD xs k 0))
+  pub few : length es ≤ maxEvents
+
+are-events : (net : Network) (es xs : List ℕ) → length es ≡ length xs → eventValues net es xs ≡ Accepted → AreEvents net es xs
+unfolding eventValues
+are-events net es xs same e =
+    let named = both-accepted _ _ e in
+    let rest = both-accepted _ _ (named .1) in
+    record {
+      same-length = same;
+      event-at = λ k h. on-edge net _ _ (part.edges-accepted net es (named .0) k h) (part.offsets-accepted net es xs (rest .0) k h);
+      few = part.count-accepted (length es) (rest .1);
+    }
+
+-- one set in any order
+pub record SetAccepted (net : Network) (es xs : List ℕ) : Type 0 where
+  pub is-network : IsNetwork net
+  pub are-events : AreEvents net es xs
+
+pub set-accepted : (net : Network) (es xs : List ℕ) → setCheck net es xs ≡ Accepted → SetAccepted net es xs
+unfolding setCheck eventLists
+set-accepted net es xs e =
+    let lists = both-accepted _ _ e in
+    let same = both-accepted _ _ (lists .1) in
+    let values = both-accepted _ _ (same .1) in
+    record {
+      is-network = values-accepted Accepted net (lists .0) (values .0) .is-network;
+      are-events = are-events net es xs (part.same-length-accepted es xs (same .0)) (values .1);
+    }
+
+-- one set given as laid out, and the number of one edge
+pub record LaidOutAccepted (net : Network) (es xs : List ℕ) (edge : ℕ) : Type 0 where
+  pub is-network : IsNetwork net
+  pub are-events : AreEvents net es xs
+  pub is-edge : Between 1 (edges net) edge
+  pub in-order : InOrder (events es xs)
+
+pub laid-out-accepted : (net : Network) (es xs : List ℕ) (edge : ℕ) → laidOutCheck net es xs edge ≡ Accepted → LaidOutAccepted net es xs edge
+unfolding laidOutCheck eventLists
+laid-out-accepted net es xs edge e =
+    let lists = both-accepted _ _ e in
+    let same = both-accepted _ _ (lists .1) in
+    let values = both-accepted _ _ (same .1) in
+    let named = both-accepted _ _ (values .1) in
+    let rest = both-accepted _ _ (named .1) in
+    let long = part.same-length-accepted es xs (same .0) in
+    record {
+      is-network = values-accepted Accepted net (lists .0) (values .0) .is-network;
+      are-events = are-events net es xs long (rest .0);
+      is-edge = part.lone-edge-accepted net edge (named .0);
+      in-order = part.in-order es xs long (part.order-accepted es xs (rest .1));
+    }
+
+-- all sets
+pub record SetsAccepted (net : Network) (sets es xs : List ℕ) : Type 0 where
+  pub is-network : IsNetwork net
+  pub are-events : AreEvents net es xs
+  pub sets-length : length sets ≡ length es
+  pub numbers : (k : ℕ) → k < length sets → getD sets k 0 ≤ maxSet
+  pub equal : (s : ℕ) → 1 ≤ s → s ≤ greatestSet sets → setSize sets s ≡ setSize sets 0
+
+pub sets-accepted : (net : Network) (sets es xs : List ℕ) → setsOverNetworkCheck net sets es xs ≡ Accepted → SetsAccepted net sets es xs
+unfolding setsOverNetworkCheck
+sets-accepted net sets es xs e =
+    let lists = both-accepted _ _ e in
+    let same = both-accepted _ _ (lists .1) in
+    let values = both-accepted _ _ (same .1) in
+    let numbers = both-accepted _ _ (values .1) in
+    let rest = both-accepted _ _ (numbers .1) in
+    let long = part.set-lists-accepted sets es xs (same .0) in
+    record {
+      is-network = values-accepted Accepted net (lists .0) (values .0) .is-network;
+      are-events = are-events net es xs (long .1) (rest .0);
+      sets-length = long .0;
+      numbers = part.set-numbers-accepted sets (numbers .0);
+      equal = part.equal-sets-accepted sets (rest .1);
+    }
+
+-- a threshold list: each above its forerunner
+pub record ThresholdsAccepted (ts : List ℕ) : Type 0 where
+  pub some : 1 ≤ length ts
+  pub few : length ts ≤ maxThresholds
+  pub rising : (k : ℕ) → suc k < length ts → getD ts k 0 < getD ts (suc k) 0
+
+pub thresholds-accepted : (ts : List ℕ) → thresholdsCheck ts ≡ Accepted → ThresholdsAccepted ts
+unfolding thresholdsCheck
+thresholds-accepted ts e =
+    let both = both-accepted _ _ e in
+    let count = part.threshold-count-accepted (length ts) (both .0) in
+    record { some = count .from; few = count .to; rising = part.rising-accepted ts (both .1) }
+
+-- so each is above all before it
+pub thresholds-rise : (ts : List ℕ) → ThresholdsAccepted ts → (i j : ℕ) → i < j → j < length ts → getD ts i 0 < getD ts j 0
+thresholds-rise ts a i zero l h = absurd (omega arith)
+thresholds-rise ts a i (suc j) l h =
+    let last = a .rising j h in
+    ⊎-elim (λ same. rw same last)
+    (λ less. omega (arith, thresholds-rise ts a i j less (omega arith)))
+    (eq-or-lt-of-le {n = i} {m = j} (omega arith))
+
+-- one set that is to be laid out
+pub record LayoutAccepted (es xs : List ℕ) : Type 0 where
+  pub same-length : length es ≡ length xs
+  pub few : length es ≤ maxEvents
+
+pub layout-accepted : (es xs : List ℕ) → layoutCheck es xs ≡ Accepted → LayoutAccepted es xs
+unfolding layoutCheck eventLists
+layout-accepted es xs e =
+    let both = both-accepted _ _ e in
+    record { same-length = part.same-length-accepted es xs (both .0); few = part.count-accepted (length es) (both .1) }

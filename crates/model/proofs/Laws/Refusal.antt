@@ -1,16 +1,16 @@
 -- Refusals: how a scanning loop meets `firstBadFrom`, how joined checks decide, and what acceptance says of each.
-use mathlib.Core.Bool.{Bool, true, false, cond, _&&_}
+use mathlib.Core.Bool.{Bool, true, false, _&&_}
 use mathlib.Core.Logic.{⊎-elim}
-use mathlib.Core.Path.{_≡_, refl, _∙_, sym, ap}
+use mathlib.Core.Path.{_≡_, refl, _∙_, sym}
 use Prim.Native.Nat.{ℕ, zero, suc, _+_, _≤_, _<_}
 use native.Mathlib.Nat.{eq-or-lt-of-le}
 use native.Mathlib.Omega.{arith}
-use borrow.Author.Tests.{le-leb, leb-true, lt-leb}
 use borrow.Author.Count.{below-more}
+use borrow.Author.Tests.{le-leb, leb-true}
 use lib.Dec.{leb}
+use Rattle.model.specs.Refusal.{orElse, unless, firstBad, firstBadFrom, isBetween}
 use Rattle.model.specs.declared.check.Check.{Check}
 use Rattle.model.specs.declared.check.Check.the-variants.{Accepted, Refused}
-use Rattle.model.specs.Refusal.{orElse, unless, firstBad, firstBadFrom, isBetween}
 
 -- a refusal is no acceptance
 pub not-accepted : {n p : ℕ} {G : Type 0} → Refused n p ≡ Accepted → G
@@ -118,6 +118,15 @@ module _ (number : ℕ) (good : ℕ → Bool) where
       ⊎-elim (λ same. rw (← same) (unless-accepted (good start) number start (both .0)))
       (λ more. good-at (suc start) n (both .1) i (omega arith) (omega arith))
       (eq-or-lt-of-le from)
+
+  -- the same of the indices below n
+  pub good-below : (n : ℕ) → firstBad number good n ≡ Accepted → (i : ℕ) → i < n → good i ≡ true
+  unfolding firstBad
+  good-below n e i h = good-at 0 n e i (omega arith) (omega arith)
+
+  pub below-good : (n : ℕ) → ((i : ℕ) → i < n → good i ≡ true) → firstBad number good n ≡ Accepted
+  unfolding firstBad
+  below-good n h = all-good 0 n (λ i l u. h i (omega arith))
 
   -- The state of a loop that has come to place k: the test held at every place before.
   pub record Scanned (start n k : ℕ) : Type 0 where

@@ -1,6 +1,6 @@
 use mathlib.Core.Path.{sym, _∙_}
 use borrow.Author.Needs.{needs}
-use Rattle.model.proofs.Laws.Checks.{lists-accepted, same-length-accepted}
+use Rattle.model.proofs.Laws.CheckParts.{lists-accepted, same-length-accepted}
 use Rattle.model.proofs.Laws.Refusal.{stops-here, goes-on}
 use Rattle.model.specs.Checks.{laidOutCheck, networkLists, eventLists, loneEdgeCheck, eventValues, edgesCheck, offsetsCheck}
 use Rattle.validate.proofs.check_laid_out.Statement.{statement}

@@ -1,6 +1,6 @@
 use mathlib.Core.Path.{sym, _∙_}
 use borrow.Author.Needs.{needs}
-use Rattle.model.proofs.Laws.Checks.{lone-edge-accepted}
+use Rattle.model.proofs.Laws.CheckParts.{lone-edge-accepted}
 use Rattle.model.proofs.Laws.Refusal.{stops-here, goes-on}
 use Rattle.model.specs.Checks.{locationsOverNetworkCheck, loneEdgeCheck, loneOffsetCheck}
 use Rattle.validate.proofs.check_locations.Statement.{statement}

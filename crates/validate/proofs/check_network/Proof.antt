@@ -1,6 +1,6 @@
 use mathlib.Core.Path.{sym, _∙_}
 use borrow.Author.Needs.{needs}
-use Rattle.model.proofs.Laws.Checks.{lists-accepted}
+use Rattle.model.proofs.Laws.CheckParts.{lists-accepted}
 use Rattle.model.proofs.Laws.Refusal.{stops-here, goes-on}
 use Rattle.model.specs.Checks.{networkCheck, networkLists}
 use Rattle.validate.proofs.check_network.Statement.{statement}

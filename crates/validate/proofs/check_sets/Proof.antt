@@ -1,6 +1,6 @@
 use mathlib.Core.Path.{sym, _∙_}
 use borrow.Author.Needs.{needs}
-use Rattle.model.proofs.Laws.Checks.{lists-accepted, set-lists-accepted}
+use Rattle.model.proofs.Laws.CheckParts.{lists-accepted, set-lists-accepted}
 use Rattle.model.proofs.Laws.Refusal.{stops-here, goes-on}
 use Rattle.model.specs.Checks.{setsOverNetworkCheck, networkLists, setLists, eventLists, eventValues, edgesCheck, offsetsCheck}
 use Rattle.validate.proofs.check_sets.Statement.{statement}

@@ -1,6 +1,6 @@
 use mathlib.Core.Path.{sym, _∙_}
 use borrow.Author.Needs.{needs}
-use Rattle.model.proofs.Laws.Checks.{edges-accepted}
+use Rattle.model.proofs.Laws.CheckParts.{edges-accepted}
 use Rattle.model.proofs.Laws.Refusal.{stops-here, goes-on}
 use Rattle.model.specs.Checks.{eventValues}
 use Rattle.validate.proofs.events.check_events.Statement.{statement}

@@ -1,6 +1,6 @@
 use mathlib.Core.Path.{sym, _∙_}
 use borrow.Author.Needs.{needs}
-use Rattle.model.proofs.Laws.Checks.{set-numbers-accepted}
+use Rattle.model.proofs.Laws.CheckParts.{set-numbers-accepted}
 use Rattle.model.proofs.Laws.Refusal.{stops-here, goes-on}
 use Rattle.validate.proofs.sets.check_values.Statement.{statement}
 use Rattle.validate.proofs.sets.check_values.Tie as tie

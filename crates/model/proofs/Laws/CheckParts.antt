@@ -1,0 +1,157 @@
+-- What acceptance by the check of each number means.
+use mathlib.Core.Bool.{true, false}
+use mathlib.Core.List.{List, [], _∷_}
+use mathlib.Core.Path.{_≡_}
+use Prim.Native.Nat.{ℕ, suc, pred, _≤_, _<_}
+use native.Mathlib.Omega.{arith}
+use borrow.Author.Tests.{eqb-true, eqb-false, eq-eqb, ne-eqb, leb-true, ltb-true, not-true}
+use lib.ListN.{length, getD}
+use Rattle.model.proofs.Laws.Refusal.{Between, both-accepted, both-accept, both-true, unless-accepted, unless-accepts, between-true, true-between, good-at, good-below, below-good}
+use Rattle.model.specs.Checks.{sameLength, sizesCheck, nodesCheck, selfCheck, lengthsCheck, setsCheck, edgesCheck, offsetsCheck, eventsCheck, equalSetsCheck, orderCheck, thresholdCountCheck, risingCheck, loneNodeCheck, loneEdgeCheck, loneOffsetCheck, networkLists, eventLists, setLists}
+use Rattle.model.specs.Events.{event, events, InOrder, empty, one, more, before, setSize, greatestSet}
+use Rattle.model.specs.Limits.{maxNodes, maxEdges, maxLength, maxEvents, maxSet, maxThresholds}
+use Rattle.model.specs.Network.{Network, IsNode, EndsAreNodes, edges, first, second, size}
+use Rattle.model.specs.Refusal.{isBetween, listsDiffer, badSizes, badNode, selfJoined, badLength, badSet, noEdge, beyondEdge, tooManyEvents, unequalSets, notInOrder, badThresholds, notRising}
+use Rattle.model.specs.declared.check.Check.the-variants.{Accepted}
+
+-- 2: the lists have one length
+pub same-length-accepted : (xs ys : List ℕ) → sameLength xs ys ≡ Accepted → length xs ≡ length ys
+unfolding sameLength
+same-length-accepted xs ys e = eqb-true _ _ (unless-accepted _ listsDiffer 0 e)
+
+pub same-length-accepts : (xs ys : List ℕ) → length xs ≡ length ys → sameLength xs ys ≡ Accepted
+unfolding sameLength
+same-length-accepts xs ys e = unless-accepts _ listsDiffer 0 (eq-eqb _ _ e)
+
+pub lists-accepted : (net : Network) → networkLists net ≡ Accepted → (length (net .firsts) ≡ edges net) × (length (net .seconds) ≡ edges net)
+unfolding networkLists
+lists-accepted net e =
+    let both = both-accepted _ _ e in
+    (same-length-accepted _ _ (both .0), same-length-accepted _ _ (both .1))
+
+pub lists-accept : (net : Network) → length (net .firsts) ≡ edges net → length (net .seconds) ≡ edges net → networkLists net ≡ Accepted
+unfolding networkLists
+lists-accept net f s = both-accept (same-length-accepts _ _ f) (same-length-accepts _ _ s)
+
+pub set-lists-accepted : (sets es xs : List ℕ) → setLists sets es xs ≡ Accepted → (length sets ≡ length es) × (length es ≡ length xs)
+unfolding setLists eventLists
+set-lists-accepted sets es xs e =
+    let both = both-accepted _ _ e in
+    (same-length-accepted _ _ (both .0), same-length-accepted _ _ (both .1))
+
+-- 6
+pub sizes-accepted : (nodes edges : ℕ) → sizesCheck nodes edges ≡ Accepted → Between 1 maxNodes nodes × Between 1 maxEdges edges
+unfolding sizesCheck
+sizes-accepted nodes edges e =
+    let both = both-true _ _ (unless-accepted _ badSizes 0 e) in
+    (between-true 1 maxNodes nodes (both .0), between-true 1 maxEdges edges (both .1))
+
+pub sizes-accept : (nodes edges : ℕ) → Between 1 maxNodes nodes → Between 1 maxEdges edges → sizesCheck nodes edges ≡ Accepted
+unfolding sizesCheck
+sizes-accept nodes edges n e =
+    unless-accepts _ badSizes 0
+    (simp (true-between 1 maxNodes nodes (n .from) (n .to), true-between 1 maxEdges edges (e .from) (e .to)))
+
+-- 7
+pub node-true : (net : Network) (v : ℕ) → isBetween 1 (net .nodes) v ≡ true → IsNode net v
+node-true net v e = let b = between-true 1 (net .nodes) v e in record { from-one = b .from; to-nodes = b .to }
+
+pub true-node : (net : Network) (v : ℕ) → IsNode net v → isBetween 1 (net .nodes) v ≡ true
+true-node net v n = true-between 1 (net .nodes) v (n .from-one) (n .to-nodes)
+
+pub lone-node-accepted : (net : Network) (v : ℕ) → loneNodeCheck net v ≡ Accepted → IsNode net v
+unfolding loneNodeCheck
+lone-node-accepted net v e = node-true net v (unless-accepted _ badNode 0 e)
+
+pub ends-accepted : (net : Network) → nodesCheck net ≡ Accepted → EndsAreNodes net
+unfolding nodesCheck
+ends-accepted net e =
+    let both : (i : ℕ) → i < edges net → _ = λ i h. both-true _ _ (good-below badNode _ (edges net) e i h) in
+    record { first-is = λ i h. node-true net _ (both i h .0); second-is = λ i h. node-true net _ (both i h .1) }
+
+pub ends-accept : (net : Network) → EndsAreNodes net → nodesCheck net ≡ Accepted
+unfolding nodesCheck
+ends-accept net n =
+    below-good badNode _ (edges net)
+    (λ i h. simp (true-node net (first net i) (n .first-is i h), true-node net (second net i) (n .second-is i h)))
+
+-- 8: no edge joins a node to itself
+pub different-accepted : (net : Network) → selfCheck net ≡ Accepted → (i : ℕ) → i < edges net → first net i ≡ second net i → ⊥
+unfolding selfCheck
+different-accepted net e i h = eqb-false _ _ (not-true _ (good-below selfJoined _ (edges net) e i h))
+
+pub different-accept : (net : Network) → ((i : ℕ) → i < edges net → first net i ≡ second net i → ⊥) → selfCheck net ≡ Accepted
+unfolding selfCheck
+different-accept net d = below-good selfJoined _ (edges net) (λ i h. simp (ne-eqb _ _ (d i h)))
+
+-- 9: every length is within its limits
+pub lengths-accepted : (net : Network) → lengthsCheck net ≡ Accepted → (i : ℕ) → i < edges net → Between 1 maxLength (size net i)
+unfolding lengthsCheck
+lengths-accepted net e i h = between-true 1 maxLength (size net i) (good-below badLength _ (edges net) e i h)
+
+pub lengths-accept : (net : Network) → ((i : ℕ) → i < edges net → Between 1 maxLength (size net i)) → lengthsCheck net ≡ Accepted
+unfolding lengthsCheck
+lengths-accept net b =
+    below-good badLength _ (edges net) (λ i h. true-between 1 maxLength (size net i) (b i h .from) (b i h .to))
+
+-- 13: every edge number names an edge
+pub lone-edge-accepted : (net : Network) (edge : ℕ) → loneEdgeCheck net edge ≡ Accepted → Between 1 (edges net) edge
+unfolding loneEdgeCheck
+lone-edge-accepted net edge e = between-true 1 (edges net) edge (unless-accepted _ noEdge 0 e)
+
+pub edges-accepted : (net : Network) (es : List ℕ) → edgesCheck net es ≡ Accepted → (k : ℕ) → k < length es → Between 1 (edges net) (getD es k 0)
+unfolding edgesCheck
+edges-accepted net es e k h = between-true 1 (edges net) (getD es k 0) (good-below noEdge _ (length es) e k h)
+
+-- 12: every set number is up to the limit
+pub set-numbers-accepted : (sets : List ℕ) → setsCheck sets ≡ Accepted → (k : ℕ) → k < length sets → getD sets k 0 ≤ maxSet
+unfolding setsCheck
+set-numbers-accepted sets e k h = leb-true _ _ (good-below badSet _ (length sets) e k h)
+
+-- 14: the offset is not beyond its edge
+pub lone-offset-accepted : (net : Network) (edge offset : ℕ) → loneOffsetCheck net edge offset ≡ Accepted → offset ≤ size net (pred edge)
+unfolding loneOffsetCheck
+lone-offset-accepted net edge offset e = leb-true _ _ (unless-accepted _ beyondEdge 0 e)
+
+pub offsets-accepted : (net : Network) (es xs : List ℕ) → offsetsCheck net es xs ≡ Accepted → (k : ℕ) → k < length es → getD xs k 0 ≤ size net (pred (getD es k 0))
+unfolding offsetsCheck
+offsets-accepted net es xs e k h = leb-true _ _ (good-below beyondEdge _ (length es) e k h)
+
+-- 15
+pub count-accepted : (n : ℕ) → eventsCheck n ≡ Accepted → n ≤ maxEvents
+unfolding eventsCheck
+count-accepted n e = leb-true _ _ (unless-accepted _ tooManyEvents maxEvents e)
+
+-- 16: the comparison sets up to the greatest are as large as set 0
+pub equal-sets-accepted : (sets : List ℕ) → equalSetsCheck sets ≡ Accepted → (s : ℕ) → 1 ≤ s → s ≤ greatestSet sets → setSize sets s ≡ setSize sets 0
+unfolding equalSetsCheck
+equal-sets-accepted sets e s l u = eqb-true _ _ (good-at unequalSets _ 1 (greatestSet sets) e s l (omega arith))
+
+-- 17: no event comes before its forerunner
+pub order-accepted : (es xs : List ℕ) → orderCheck es xs ≡ Accepted → (k : ℕ) → suc k < length es → before (event (getD es (suc k) 0) (getD xs (suc k) 0)) (event (getD es k 0) (getD xs k 0)) ≡ false
+unfolding orderCheck
+order-accepted es xs e k h = not-true _ (good-at notInOrder _ 1 (pred (length es)) e (suc k) (omega arith) (omega arith))
+
+-- so the events are in order
+pub in-order : (es xs : List ℕ) → length es ≡ length xs → ((k : ℕ) → suc k < length es → before (event (getD es (suc k) 0) (getD xs (suc k) 0)) (event (getD es k 0) (getD xs k 0)) ≡ false) → InOrder (events es xs)
+unfolding events
+in-order [] xs e h = empty
+in-order (a ∷ es) [] e h = empty
+in-order (a ∷ []) (x ∷ xs) e h = one
+in-order (a ∷ b ∷ es) (x ∷ []) e h = one
+in-order (a ∷ b ∷ es) (x ∷ y ∷ xs) e h = more (h 0 (omega arith)) (in-order (b ∷ es) (y ∷ xs) (omega arith) (λ k u. h (suc k) (omega arith)))
+
+-- 18
+pub threshold-count-accepted : (n : ℕ) → thresholdCountCheck n ≡ Accepted → Between 1 maxThresholds n
+unfolding thresholdCountCheck
+threshold-count-accepted n e =
+    let both = both-accepted _ _ e in
+    record {
+      from = leb-true _ _ (unless-accepted _ badThresholds 0 (both .0));
+      to = leb-true _ _ (unless-accepted _ badThresholds maxThresholds (both .1));
+    }
+
+-- 19: each threshold is above its forerunner
+pub rising-accepted : (ts : List ℕ) → risingCheck ts ≡ Accepted → (k : ℕ) → suc k < length ts → getD ts k 0 < getD ts (suc k) 0
+unfolding risingCheck
+rising-accepted ts e k h = ltb-true _ _ (good-at notRising _ 1 (pred (length ts)) e (suc k) (omega arith) (omega arith))
