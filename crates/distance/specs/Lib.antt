@@ -1,3 +1,4 @@
--- What the contracts of this crate cite besides the definitions of model.
+-- What the contracts of this crate cite besides the definitions of model: the promises first, then what the search keeps.
+pub mod Answers
 pub mod Arcs
 pub mod Search

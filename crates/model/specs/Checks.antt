@@ -16,6 +16,10 @@ use Rattle.model.specs.Refusal.{orElse, unless, firstBad, firstBadFrom, 
 unfoldable pub sameLength : List ℕ → List ℕ → Check
 sameLength xs ys = unless (eqb (length xs) (length ys)) listsDiffer 0
 
+-- 2: an answer list is too short for so many entries
+unfoldable pub roomCheck : ℕ → List ℕ → Check
+roomCheck n answers = unless (leb n (length answers)) listsDiffer 0
+
 -- 6: nodes or edges outside their limits
 unfoldable pub sizesCheck : ℕ → ℕ → Check
 sizesCheck nodes edges = unless (isBetween 1 maxNodes nodes && isBetween 1 maxEdges edges) badSizes 0
