@@ -1,0 +1,3 @@
+-- What every counting method starts from and ends in.
+pub mod Counts
+pub mod Prepared

@@ -1,0 +1,54 @@
+-- What the methods start from: the sets one after the other, each laid out, cut into runs of events on one edge,
+-- and the leg-end distances bounded by the greatest threshold.
+use mathlib.Core.List.{List, [], _∷_, _++_, map}
+use mathlib.Core.Path.{_≡_}
+use Prim.Native.Nat.{ℕ, zero, suc, pred, _+_, _*_, _≤_, _<_}
+use lib.ListN.{length, getD, take}
+use Rattle.model.specs.Counting.{sumBelow}
+use Rattle.model.specs.Distance.{code}
+use Rattle.model.specs.Events.{Event, event, events, having, sorted, setSize, setCount}
+use Rattle.model.specs.Network.{Network, IsNode, first, second}
+use Rattle.model.specs.NodeDistance.{boundedDistance}
+
+-- the events of set s, laid out
+unfoldable pub laidOutSet : List ℕ → List Event → ℕ → List Event
+laidOutSet sets es s = sorted (having s sets es)
+
+-- n sets from set s on, one after the other
+unfoldable pub groupedFrom : List ℕ → List Event → ℕ → ℕ → List Event
+groupedFrom sets es s zero = []
+groupedFrom sets es s (suc n) = laidOutSet sets es s ++ groupedFrom sets es (suc s) n
+
+unfoldable pub grouped : List ℕ → List Event → List Event
+grouped sets es = groupedFrom sets es 0 (setCount sets)
+
+-- where set s begins among them
+unfoldable pub startOf : List ℕ → ℕ → ℕ
+startOf sets s = sumBelow s (setSize sets)
+
+-- the greatest of rising thresholds, which bounds the leg-end distances
+unfoldable pub greatest : List ℕ → ℕ
+greatest ts = getD ts (pred (length ts)) 0
+
+-- runs: places bound 0 = 0 < bound 1 < .. < bound r = n that cut the events so that each run lies on one edge of one set;
+-- the runs of set s are those from number setRuns s on, below setRuns (s + 1)
+pub record Runs (sets edges bounds setRuns : List ℕ) (n : ℕ) : Type 0 where
+  pub begins : getD setRuns 0 0 ≡ 0
+  pub at-zero : getD bounds 0 0 ≡ 0
+  pub rising : (r : ℕ) → r < getD setRuns (setCount sets) 0 → getD bounds r 0 < getD bounds (suc r) 0
+  pub one-edge : (r k : ℕ) → r < getD setRuns (setCount sets) 0 → getD bounds r 0 ≤ k → k < getD bounds (suc r) 0 → getD edges k 0 ≡ getD edges (getD bounds r 0) 0
+  pub in-order : (s : ℕ) → s < setCount sets → getD setRuns s 0 ≤ getD setRuns (suc s) 0
+  pub set-begins : (s : ℕ) → s ≤ setCount sets → getD bounds (getD setRuns s 0) 0 ≡ startOf sets s
+  pub few : getD setRuns (setCount sets) 0 ≤ n
+
+-- the entry for two nodes in a square table
+unfoldable pub entry : Network → List ℕ → ℕ → ℕ → ℕ
+entry net table u v = getD table (pred u * net .nodes + pred v) 0
+
+-- everything together, for n events
+pub record Prepared (net : Network) (sets es xs ts edges offsets bounds setRuns table : List ℕ) : Type 0 where
+  pub edges-are : take (length es) edges ≡ map (λ e. e .edge) (grouped sets (events es xs))
+  pub offsets-are : take (length es) offsets ≡ map (λ e. e .offset) (grouped sets (events es xs))
+  pub runs : Runs sets edges bounds setRuns (length es)
+  pub from-first : (k v : ℕ) → k < length es → IsNode net v → entry net table (first net (pred (getD es k 0))) v ≡ code (boundedDistance net (greatest ts) (first net (pred (getD es k 0))) v)
+  pub from-second : (k v : ℕ) → k < length es → IsNode net v → entry net table (second net (pred (getD es k 0))) v ≡ code (boundedDistance net (greatest ts) (second net (pred (getD es k 0))) v)
