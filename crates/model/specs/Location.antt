@@ -1,11 +1,11 @@
 -- Locations (01: places), walks between them and their distance.
-use mathlib.Core.Bool.{Bool, true, false, cond}
+use mathlib.Core.Bool.{Bool, cond}
 use mathlib.Core.List.{List, [], _∷_, _++_, map, List·Memᴰ}
 use mathlib.Core.Path.{_≡_}
 use Prim.Native.Nat.{ℕ, zero, suc, pred, _+_, _-_, _≤_, _<_}
 use lib.Dec.{eqb}
 use Rattle.model.specs.Network.{Network, IsNode, edges, first, second, size}
-use Rattle.model.specs.Distance.{Distance, metres, none, least, plus, leastOf, difference}
+use Rattle.model.specs.Distance.{Distance, metres, none, least, plus, leastOf, within, difference}
 use Rattle.model.specs.Walk.{Walk}
 use Rattle.model.specs.NodeDistance.{nodeDistance}
 
@@ -71,3 +71,20 @@ locationDistance net p q = least (routes net (ends net p) (ends net q)) (stretch
 unfoldable pub edgeDistance : Network → ℕ → ℕ → ℕ → ℕ → Distance
 edgeDistance net i x j y =
     least (routes net (edgeEnds net i x) (edgeEnds net j y)) (cond (eqb i j) (metres (difference x y)) none)
+
+-- the two ends of an edge, as a parameter: the node there, and an offset's gap to it (on a node too)
+pub data Side : Type 0 where
+  at-first : Side
+  at-second : Side
+
+unfoldable pub endNode : Network → ℕ → Side → ℕ
+endNode net i at-first = first net i
+endNode net i at-second = second net i
+
+unfoldable pub gap : ℕ → Side → ℕ → ℕ
+gap size at-first x = x
+gap size at-second x = size - x
+
+-- one of the four routes reaches: the gap of the first, the distance and the gap of the second add up to no more than t
+unfoldable pub reaches : ℕ → ℕ → Distance → ℕ → Bool
+reaches t a d b = within (plus (plus (metres a) d) (metres b)) t
