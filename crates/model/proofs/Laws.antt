@@ -16,3 +16,5 @@ pub mod PairCount
 pub mod Refusal
 pub mod CheckParts
 pub mod Checks
+pub mod Pieces
+pub mod Cover
