@@ -1,0 +1,5 @@
+// Readers of the three texts.
+mod answers;
+
+pub use answers::ReadList;
+pub use answers::ReadNetwork;

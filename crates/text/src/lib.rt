@@ -1,0 +1,8 @@
+// Lines, numbers and fields of the texts.
+mod fields;
+mod network_line;
+mod number;
+
+pub use fields::Numbers;
+pub use network_line::NetworkLine;
+pub use number::Number;

@@ -1,0 +1,5 @@
+// A number in a text.
+pub enum Number {
+    Value(u32),
+    NoNumber,
+}
