@@ -6,3 +6,4 @@ mod number;
 pub use fields::Numbers;
 pub use network_line::NetworkLine;
 pub use number::Number;
+pub use number::number_of;

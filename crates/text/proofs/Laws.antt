@@ -1,0 +1,2 @@
+-- Laws of numbers, lines and fields.
+pub mod Numbers
