@@ -1,4 +1,5 @@
 -- Laws of numbers, lines and fields.
+pub mod Fields
 pub mod Lines
 pub mod Numbers
 pub mod Places

@@ -6,6 +6,9 @@ mod number;
 mod search;
 
 pub use fields::Numbers;
+pub use fields::begins_with;
+pub use fields::numbers_of;
+pub use fields::same_bytes;
 pub use lines::Line;
 pub use lines::csv_line;
 pub use lines::feed_line;
