@@ -13,5 +13,6 @@ pub use lines::Line;
 pub use lines::csv_line;
 pub use lines::feed_line;
 pub use network_line::NetworkLine;
+pub use network_line::network_line_of;
 pub use number::Number;
 pub use number::number_of;

@@ -123,14 +123,18 @@ fields-four a b c sep (d ∷ ds) = go (eqb d sep) (fields sep ds)
 abbrev pub rest-from : ℕ → List ℕ → List ℕ
 rest-from n line = take (length line - n) (drop n line)
 
+pub rest-from-drop : (n : ℕ) (line : List ℕ) → rest-from n line ≡ drop n line
+rest-from-drop n line = take-all (length line - n) (drop n line) (omega (arith, length-drop n line))
+
+pub numbers-from : (sep n : ℕ) (line : List ℕ) → numbersOf (fields sep (rest-from n line)) ≡ numbersOf (fields sep (drop n line))
+numbers-from sep n line = rw rest-from-drop
+
 module _ (sep : ℕ) (line : List ℕ) (i : ℕ) (found : i ≡ firstAt sep line) where
   pub alone-at : length line ≤ i → fields sep line ≡ line ∷ []
   alone-at h = fields-alone sep line (rw found at h)
 
   pub first-at : i < length line → fields sep line ≡ take i line ∷ fields sep (rest-from (i + 1) line)
-  first-at h =
-      simp (take-all (length line - (i + 1)) (drop (i + 1) line) (omega (arith, length-drop (i + 1) line)))
-      (rw found (fields-first sep line (rw found at h)))
+  first-at h = rw rest-from-drop (rw found (fields-first sep line (rw found at h)))
 
 -- the numbers of one, two or three fields, each read by itself
 module _ (line a : List ℕ) (x : Number) (first : x ≡ numberOf a) (sep : ℕ) where
