@@ -56,7 +56,8 @@ fn value_of(field: &[u8]) -> Number
         }
         i += 1;
     }
-    Number::Value(value as u32)
+    let read = value as u32;
+    Number::Value(read)
 }
 
 fn wide(b: u8) -> u64

@@ -46,8 +46,8 @@ loop-less c = omega arith
 loop-again : tie.Need-loop-again Inv-loop μ-loop
 loop-again c = one-more (c .before .before .before .before .before .before .loop .inv) (c .before .before .before .before .before .loop-test .taken) (c .before .before .before .wide .ensures) (c .before .before .if1 .left) (c .before .if2 .left) (c .if3 .left)
 
-cast-t11 : tie.Need-cast-t11 Inv-loop μ-loop
-cast-t11 c = omega arith
+cast-read : tie.Need-cast-read Inv-loop μ-loop
+cast-read c = omega arith
 
 returns-4 : tie.Need-returns-4 Inv-loop μ-loop
 returns-4 c = all-read (c .before .loop .inv) (c .loop-test .left)
@@ -69,5 +69,5 @@ value-of-spec =
     add-i
     loop-less
     loop-again
-    cast-t11
+    cast-read
     returns-4)
