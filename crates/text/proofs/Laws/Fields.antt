@@ -1,11 +1,11 @@
 -- Laws of fields: equal bytes, the first field of a line, and the numbers of a line.
-use mathlib.Core.Bool.{Bool, true, false, cond, _&&_, and-false}
+use mathlib.Core.Bool.{Bool, true, false, cond, _&&_}
 use mathlib.Core.List.{List, [], _∷_}
 use mathlib.Core.Path.{_≡_, refl, sym, ap, _∙_}
-use Prim.Native.Nat.{ℕ, zero, suc, _+_, _-_, _≤_, _<_}
+use Prim.Native.Nat.{ℕ, suc, _+_, _-_, _≤_, _<_}
 use native.Mathlib.Numerals.{add-one}
 use native.Mathlib.Omega.{arith}
-use borrow.Author.Tests.{eq-eqb, ne-eqb, eqb-true}
+use borrow.Author.Tests.{eq-eqb, ne-eqb}
 use lib.Dec.{eqb}
 use lib.ListN.{length, getD, take, drop, length-take, length-drop, drop-of-length-le}
 use lib.Seq.{drop-cons, take-all}
@@ -14,7 +14,6 @@ use Rattle.text.specs.Numbers.{numberOf}
 use Rattle.text.specs.Fields.{fields, sameBytes, beginsWith, numbersOf, ofOne, ofTwo, ofThree}
 use Rattle.text.specs.Places.{firstAt}
 use Rattle.text.specs.declared.number.Number.{Number}
-use Rattle.text.specs.declared.fields.Numbers.{Numbers}
 use Rattle.text.specs.declared.fields.Numbers.the-variants.{Nothing}
 
 -- lists of the same bytes are equally long

@@ -1,7 +1,6 @@
 -- `numbers_of`: up to three fields, each of them read as a number.
 use mathlib.Core.Path.{sym, _∙_}
 use native.Mathlib.Omega.{arith}
-use lib.ListN.{length-drop, length-take}
 use lib.Seq.{length-take-le}
 use Rattle.text.proofs.Laws.Fields.{alone-at, first-at, numbers-one, numbers-two, numbers-three, numbers-four}
 use borrow.Author.Needs.{needs}

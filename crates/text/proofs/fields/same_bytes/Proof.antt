@@ -1,6 +1,5 @@
 -- `same_bytes`: equally long, and each byte that was passed is the same.
 use Prim.Native.Nat.{_-_}
-use borrow.Author.Needs.{needs}
 use native.Mathlib.Omega.{arith}
 use lib.ListN.{length}
 use Rattle.text.proofs.Laws.Fields.{SameSoFar, same-start, one-differs, one-same, all-same, differ-length}

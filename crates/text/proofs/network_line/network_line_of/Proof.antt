@@ -24,7 +24,11 @@ begins-with-requires c κs = search needs
 
 returns-2 : tie.Need-returns-2
 unfolding networkLine
-returns-2 c = simp (sym (c .before .before .before .before .same-bytes .ensures) ∙ (c .before .before .before .if1 .left), sym (c .before .begins-with .ensures) ∙ (c .if2 .taken))
+returns-2 c =
+    simp (
+      sym (c .before .before .before .before .same-bytes .ensures) ∙ (c .before .before .before .if1 .left),
+      sym (c .before .begins-with .ensures) ∙ (c .if2 .taken),
+    )
 
 slice-aggregate-begins-with-2 : tie.Need-slice-aggregate-begins-with-2
 slice-aggregate-begins-with-2 c = search needs
@@ -52,7 +56,11 @@ unfolding networkLine
 returns-3 c =
     c .problem-of .ensures ∙
     ap problemOf (c .before .numbers-of .ensures ∙ numbers-from space 5 (c .before .before .before .before .before .before .before .before .before .before .before .before .before .args .line .now)) ∙
-    simp (sym (c .before .before .before .before .before .before .before .before .before .before .same-bytes .ensures) ∙ (c .before .before .before .before .before .before .before .before .before .if1 .left), sym (c .before .before .before .before .before .before .before .begins-with .ensures) ∙ (c .before .before .before .before .before .before .if2 .left), sym (c .before .before .before .before .begins-with2 .ensures) ∙ (c .before .before .before .if3 .taken))
+    simp (
+      sym (c .before .before .before .before .before .before .before .before .before .before .same-bytes .ensures) ∙ (c .before .before .before .before .before .before .before .before .before .if1 .left),
+      sym (c .before .before .before .before .before .before .before .begins-with .ensures) ∙ (c .before .before .before .before .before .before .if2 .left),
+      sym (c .before .before .before .before .begins-with2 .ensures) ∙ (c .before .before .before .if3 .taken),
+    )
 
 slice-aggregate-begins-with-3 : tie.Need-slice-aggregate-begins-with-3
 slice-aggregate-begins-with-3 c = search needs
@@ -80,11 +88,22 @@ unfolding networkLine
 returns-4 c =
     c .arc-of .ensures ∙
     ap arcOf (c .before .numbers-of2 .ensures ∙ numbers-from space 2 (c .before .before .before .before .before .before .before .before .before .before .before .before .before .before .before .before .args .line .now)) ∙
-    simp (sym (c .before .before .before .before .before .before .before .before .before .before .before .before .before .same-bytes .ensures) ∙ (c .before .before .before .before .before .before .before .before .before .before .before .before .if1 .left), sym (c .before .before .before .before .before .before .before .before .before .before .begins-with .ensures) ∙ (c .before .before .before .before .before .before .before .before .before .if2 .left), sym (c .before .before .before .before .before .before .before .begins-with2 .ensures) ∙ (c .before .before .before .before .before .before .if3 .left), sym (c .before .before .before .before .begins-with3 .ensures) ∙ (c .before .before .before .if4 .taken))
+    simp (
+      sym (c .before .before .before .before .before .before .before .before .before .before .before .before .before .same-bytes .ensures) ∙ (c .before .before .before .before .before .before .before .before .before .before .before .before .if1 .left),
+      sym (c .before .before .before .before .before .before .before .before .before .before .begins-with .ensures) ∙ (c .before .before .before .before .before .before .before .before .before .if2 .left),
+      sym (c .before .before .before .before .before .before .before .begins-with2 .ensures) ∙ (c .before .before .before .before .before .before .if3 .left),
+      sym (c .before .before .before .before .begins-with3 .ensures) ∙ (c .before .before .before .if4 .taken),
+    )
 
 returns-5 : tie.Need-returns-5
 unfolding networkLine
-returns-5 c = simp (sym (c .before .before .before .before .before .before .before .before .before .before .same-bytes .ensures) ∙ (c .before .before .before .before .before .before .before .before .before .if1 .left), sym (c .before .before .before .before .before .before .before .begins-with .ensures) ∙ (c .before .before .before .before .before .before .if2 .left), sym (c .before .before .before .before .begins-with2 .ensures) ∙ (c .before .before .before .if3 .left), sym (c .before .begins-with3 .ensures) ∙ (c .if4 .left))
+returns-5 c =
+    simp (
+      sym (c .before .before .before .before .before .before .before .before .before .before .same-bytes .ensures) ∙ (c .before .before .before .before .before .before .before .before .before .if1 .left),
+      sym (c .before .before .before .before .before .before .before .begins-with .ensures) ∙ (c .before .before .before .before .before .before .if2 .left),
+      sym (c .before .before .before .before .begins-with2 .ensures) ∙ (c .before .before .before .if3 .left),
+      sym (c .before .begins-with3 .ensures) ∙ (c .if4 .left),
+    )
 
 pub network-line-of-spec : {M : Type 1} → statement M
 network-line-of-spec =

@@ -1,8 +1,7 @@
 -- `has_shape` answers the two tests of the definition.
 use mathlib.Core.Bool.{and-false}
 use borrow.Author.Needs.{needs}
-use borrow.Author.Tests.{lt-leb, le-leb, eq-eqb, ne-eqb}
-use native.Mathlib.Omega.{arith}
+use borrow.Author.Tests.{lt-leb, le-leb, ne-eqb}
 use Rattle.model.specs.Refusal.{isBetween}
 use Rattle.text.proofs.number.has_shape.Statement.{statement}
 use Rattle.text.proofs.number.has_shape.Tie as tie
