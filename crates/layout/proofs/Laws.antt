@@ -4,4 +4,5 @@ pub mod Filling
 pub mod Keys
 pub mod Parts
 pub mod Halves
-pub mod Verdict
+pub mod Tally
+pub mod OnEdge

@@ -4,9 +4,7 @@ use crate::keys::part;
 use crate::merge_sort::sort;
 use model::Check;
 use model::EventSet;
-use model::MadeEventSet;
-ghost use mathlib.Core.Path.{_≡_};
-ghost use Rattle.model.specs.Checks.{layoutCheck};
+use validate::check_layout;
 ghost use Rattle.layout.specs.Keys.{Fitting, SortedEvents};
 ghost use Rattle.layout.specs.Layout.{LaidOut};
 
@@ -18,19 +16,6 @@ fn sort_events(edges: &mut [u32], offsets: &mut [u32], keys: &mut [u64])
     join(edges, offsets, keys);
     sort(keys);
     part(keys, edges, offsets);
-}
-
-// 2 and 15.
-fn check_layout(edges: &[u32], offsets: &[u32]) -> Check
-    ensures { λ r. ⌜ r ≡ layoutCheck (now (edges .entry)) (now (offsets .entry)) ⌝ }
-{
-    if edges.len() != offsets.len() {
-        return Check::Refused(2, 0);
-    }
-    match EventSet::new(edges.len()) {
-        MadeEventSet::Made(_) => Check::Accepted,
-        MadeEventSet::Refused(number, place) => Check::Refused(number, place),
-    }
 }
 
 // Puts the events in rising order by edge and then by offset, repeats kept. Refuses lists of different lengths (2) and more

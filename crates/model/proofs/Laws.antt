@@ -18,3 +18,5 @@ pub mod CheckParts
 pub mod Checks
 pub mod Pieces
 pub mod Cover
+pub mod Answer
+pub mod Stretch

@@ -106,12 +106,12 @@ cover-count n p q below upto h = last _ _ _ _ _ (cover-to n p q below upto n h) 
     last count a a′ b b′ e f g = omega arith
 
 -- a test that holds nowhere
-none-pass : (test : ℕ → Bool) (xs : List ℕ) → ((k : ℕ) → k < length xs → test (getD xs k 0) ≡ false) → countIf test xs ≡ 0
+pub none-pass : (test : ℕ → Bool) (xs : List ℕ) → ((k : ℕ) → k < length xs → test (getD xs k 0) ≡ false) → countIf test xs ≡ 0
 unfolding countIf one-if
 none-pass test [] off = refl
 none-pass test (x ∷ xs) off = rw (off 0 (omega arith)) (omega (arith, none-pass test xs (λ k h. off (suc k) (omega arith))))
 
-all-pass : (test : ℕ → Bool) (xs : List ℕ) → ((k : ℕ) → k < length xs → test (getD xs k 0) ≡ true) → countIf test xs ≡ length xs
+pub all-pass : (test : ℕ → Bool) (xs : List ℕ) → ((k : ℕ) → k < length xs → test (getD xs k 0) ≡ true) → countIf test xs ≡ length xs
 unfolding countIf one-if
 all-pass test [] on = refl
 all-pass test (x ∷ xs) on = rw (on 0 (omega arith)) (omega (arith, all-pass test xs (λ k h. on (suc k) (omega arith))))

@@ -7,7 +7,8 @@ use lib.Seq.{length-take-le}
 use Rattle.model.specs.declared.check.Check.the-variants.{Accepted}
 use Rattle.model.specs.Limits.{maxEvents}
 use Rattle.model.specs.Checks.{layoutCheck}
-use Rattle.layout.proofs.Laws.Verdict.{accepted-lists, written-refused, written-all}
+use Rattle.model.proofs.Laws.Answer.{written-refused, written-all}
+use Rattle.model.proofs.Laws.Checks.{LayoutAccepted, layout-accepted}
 use borrow.Author.Needs.{needs}
 use Rattle.layout.proofs.laying_out.lay_out.Statement.{statement}
 use Rattle.layout.proofs.laying_out.lay_out.Tie as tie
@@ -47,22 +48,22 @@ module _ (c : tie.After-enum-told2) where
   accepted : layoutCheck edges offsets ≡ Accepted
   accepted = sym (c .before .before .check-layout .ensures) ∙ c .enum-told2 .given .1
 
-  fitting : (length edges ≡ length offsets) × (length edges ≤ maxEvents)
-  fitting = accepted-lists edges offsets accepted
+  fitting : LayoutAccepted edges offsets
+  fitting = layout-accepted edges offsets accepted
 
 array-borrow-prefix-keys : tie.Need-array-borrow-prefix-keys
-array-borrow-prefix-keys c = fitting (c .before .before) .1
+array-borrow-prefix-keys c = fitting (c .before .before) .few
 
 slice-aggregate-sort-events : tie.Need-slice-aggregate-sort-events
-slice-aggregate-sort-events c = sym (length-take-le (length (edges (c .before .before .before))) _ (fitting (c .before .before .before) .1))
+slice-aggregate-sort-events c = sym (length-take-le (length (edges (c .before .before .before))) _ (fitting (c .before .before .before) .few))
 
 sort-events-requires : tie.Need-sort-events-requires
 sort-events-requires c κs =
     let checked = c .before .before .before in
     record {
-      same-offsets = sym (fitting checked .0);
-      same-keys = length-take-le (length (edges checked)) _ (fitting checked .1);
-      few = fitting checked .1;
+      same-offsets = sym (fitting checked .same-length);
+      same-keys = length-take-le (length (edges checked)) _ (fitting checked .few);
+      few = fitting checked .few;
     }
 
 same-length-3 : tie.Need-same-length-3
