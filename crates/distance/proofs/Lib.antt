@@ -6,4 +6,11 @@ mod Nearest
 mod Offer
 mod Follow
 mod Picks
+mod Stops
+mod Rooms
 mod Slots
+mod Entries
+mod Verdicts
+mod Answered
+mod Routes
+mod Tables

@@ -1,27 +1,23 @@
--- The search between two picks: how it starts, what a pick does, and what the entries say when it stops.
+-- The search between two picks: how it starts, and what a pick does.
 use mathlib.Core.Bool.{Bool, true, false}
 use mathlib.Core.List.{List}
 use mathlib.Core.Logic.{_⊎_, inl, inr, _≢_}
 use mathlib.Core.Path.{_≡_, _∙_, refl, sym, ap, subst}
 use Prim.Native.Nat.{ℕ, zero, suc, pred, _+_, _*_, _≤_, _<_}
-use native.Mathlib.Decide.{ℕ-discrete, decLe}
+use native.Mathlib.Decide.{ℕ-discrete}
 use native.Mathlib.Omega.{arith}
 use borrow.Author.Tests.{le-leb, lt-leb}
 use lib.Dec.{leb}
 use lib.ListN.{length, getD, set, length-set}
 use lib.Seq.{getD-set-same, getD-set-other}
 use Rattle.model.proofs.Laws.Counting.{sum-below-zero}
-use Rattle.model.proofs.Laws.Least.{least-unique}
-use Rattle.model.proofs.Laws.NodeDistance.{node-distance, bounded-distance}
 use Rattle.model.specs.Counting.{countBelow, one-if}
-use Rattle.model.specs.Distance.{Distance, metres, none, code}
 use Rattle.model.specs.Limits.{maxLength}
-use Rattle.model.specs.Network.{Network, IsNode, EndsAreNodes, edges}
-use Rattle.model.specs.NodeDistance.{boundedDistance}
-use Rattle.model.specs.Walk.{Walk, here, IsLeast, attained, no-walk}
+use Rattle.model.specs.Network.{Network, IsNode, edges}
+use Rattle.model.specs.Walk.{Walk, here}
 use Rattle.distance.specs.Search.{InFront, at, Settled, Status, waiting, settled, followed, State, Following}
 use Rattle.distance.proofs.Lists.{AfterStore, set-cases}
-use Rattle.distance.proofs.Nearest.{Nearer, nearer, no-shorter, waits-or-settled}
+use Rattle.distance.proofs.Nearest.{Nearer, nearer, no-shorter}
 use Rattle.distance.proofs.Offer.{count-one-more, few}
 
 -- the source waits, nothing else has been reached
@@ -139,44 +135,3 @@ pick net source bound dist front len l picked k s is h best near =
       where
         no-node : u ≡ 0 → 1 ≤ u → ⊥
         no-node z one = omega arith
-
--- when nothing within the bound waits any more, an entry within the bound is the distance, and any other node is beyond
-pub stopped : (net : Network) → EndsAreNodes net → (source bound : ℕ) (dist front : List ℕ) (len picked v : ℕ) → State net source bound dist front len picked 0 → ((j : ℕ) → j < len → suc bound < getD dist (getD front j 0) 0) → ((getD dist v 0 ≤ suc bound) × (getD dist v 0 ≡ code (boundedDistance net bound source v))) ⊎ ((suc bound < getD dist v 0) × (0 ≡ code (boundedDistance net bound source v)))
-unfolding code
-stopped net ends source bound dist front len picked v s far = go (decLe (getD dist v 0) (suc bound)) (ℕ-discrete (getD dist v 0) 0)
-  where
-    law : IsLeast (λ n. Walk net source v n × (n ≤ bound)) (boundedDistance net bound source v)
-    law = bounded-distance net ends bound source v
-
-    -- nothing that waits is as near as a walk within the bound
-    settled-by : (n : ℕ) → n ≤ bound → Settled net source bound dist v 0 ⊎ Nearer dist front len n → Settled net source bound dist v 0
-    settled-by n l (inl x) = x
-    settled-by n l (inr (nearer j j-in e)) = absurd (too-near (far j j-in))
-      where
-        too-near : suc bound < getD dist (getD front j 0) 0 → ⊥
-        too-near f = omega arith
-
-    beyond : (Settled net source bound dist v 0 → ⊥) → 0 ≡ code (boundedDistance net bound source v)
-    beyond not = ap code (sym (least-unique law (no-walk (λ n w. not (settled-by n (w .1) (no-shorter s (w .0)))))))
-
-    found : (n : ℕ) → getD dist v 0 ≡ suc n → getD dist v 0 ≤ suc bound → getD dist v 0 ≡ code (boundedDistance net bound source v)
-    found n e near =
-        let x = settled-by n (omega arith) (waits-or-settled v n s (omega arith) (omega arith)) in
-        e ∙ ap code (sym (least-unique law (attained (s .walks v n e, omega arith) (λ m w. omega (arith, x .exact m (w .0))))))
-
-    go : Dec (getD dist v 0 ≤ suc bound) → Dec (getD dist v 0 ≡ 0) → ((getD dist v 0 ≤ suc bound) × (getD dist v 0 ≡ code (boundedDistance net bound source v))) ⊎ ((suc bound < getD dist v 0) × (0 ≡ code (boundedDistance net bound source v)))
-    go (yes near) (yes e) = inl (near, e ∙ beyond (λ x. omega (arith, x .reached)))
-    go (yes near) (no e) = inl (near, found (pred (getD dist v 0)) (omega arith) near)
-    go (no f) e = inr (omega arith, beyond (λ x. omega (arith, x .in-bound)))
-
--- nobody waits: every entry is within the bound
-pub exhausted : {net : Network} {source bound : ℕ} {dist front : List ℕ} {len picked : ℕ} → State net source bound dist front len picked 0 → len ≡ 0 → (v : ℕ) → getD dist v 0 ≤ suc bound
-exhausted {net} {source} {bound} {dist} {front} {len} s empty v = go (ℕ-discrete (getD dist v 0) 0)
-  where
-    near : Settled net source bound dist v 0 ⊎ Nearer dist front len (getD dist v 0) → getD dist v 0 ≤ suc bound
-    near (inl x) = x .in-bound
-    near (inr (nearer j h e)) = omega arith
-
-    go : Dec (getD dist v 0 ≡ 0) → getD dist v 0 ≤ suc bound
-    go (yes e) = omega arith
-    go (no e) = near (waits-or-settled v (getD dist v 0) s (omega arith) (omega arith))

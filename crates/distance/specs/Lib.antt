@@ -2,3 +2,5 @@
 pub mod Answers
 pub mod Arcs
 pub mod Search
+pub mod Routes
+pub mod Table

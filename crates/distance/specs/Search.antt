@@ -5,10 +5,14 @@ use mathlib.Core.Path.{_≡_}
 use Prim.Native.Nat.{ℕ, suc, _+_, _*_, _/_, _<_, _≤_}
 use lib.Dec.{leb}
 use lib.ListN.{length, getD, set}
+use Rattle.model.specs.Checks.{networkCheck}
 use Rattle.model.specs.Counting.{countBelow}
+use Rattle.model.specs.Distance.{code}
 use Rattle.model.specs.Limits.{maxLength, maxNodes, maxEdges}
 use Rattle.model.specs.Network.{Network, IsNode, EndsAreNodes, edges, size}
+use Rattle.model.specs.NodeDistance.{nodeDistance, boundedDistance}
 use Rattle.model.specs.Walk.{Walk}
+use Rattle.model.specs.declared.check.Check.the-variants.{Accepted}
 use Rattle.distance.specs.Arcs.{tail, Linked}
 
 -- v is among the first len nodes of the front
@@ -74,3 +78,25 @@ pub record Ready (net : Network) (last next : List ℕ) (source : ℕ) (dist fro
 pub record Clipped (bound before after : ℕ) : Type 0 where
   pub near : before ≤ suc bound → after ≡ before
   pub far : suc bound < before → after ≡ 0
+
+-- room for the chains of arcs and the front of any network
+pub record Rooms (last next front : List ℕ) : Type 0 where
+  pub last-room : maxNodes < length last
+  pub next-room : maxEdges + maxEdges ≤ length next
+  pub front-room : maxNodes ≤ length front
+
+-- what a search with its arcs not yet linked asks: an accepted network, a source and room for the entries
+pub record Askable (net : Network) (source : ℕ) (dist : List ℕ) : Type 0 where
+  pub accepted : networkCheck net ≡ Accepted
+  pub source-is : IsNode net source
+  pub room : net .nodes < length dist
+
+-- what a search leaves as a node's entry: the code of the bounded distance; a bound that no walk worth taking passes cuts nothing off
+pub record Found (net : Network) (source bound v entry : ℕ) : Type 0 where
+  pub bounded : entry ≡ code (boundedDistance net bound source v)
+  pub whole : maxLength * maxNodes ≤ bound → entry ≡ code (nodeDistance net source v)
+  pub small : entry ≤ suc (maxLength * maxNodes)
+
+-- the same of every node
+pub record Searched (net : Network) (source bound : ℕ) (dist : List ℕ) : Type 0 where
+  pub at : (v : ℕ) → Found net source bound v (getD dist v 0)

@@ -2,10 +2,8 @@
 ghost use mathlib.Core.Path.{_≡_};
 ghost use Prim.Native.Nat.{ℕ, suc, _<_};
 ghost use lib.ListN.{length, getD};
-ghost use Rattle.model.specs.Distance.{code};
 ghost use Rattle.model.specs.Network.{network};
-ghost use Rattle.model.specs.NodeDistance.{boundedDistance};
-ghost use Rattle.distance.specs.Search.{Ready, Offered, Clipped};
+ghost use Rattle.distance.specs.Search.{Ready, Searched, Offered, Clipped};
 use crate::arcs::clear;
 use crate::arcs::tail_of;
 
@@ -30,7 +28,7 @@ pub fn search(
     front: &mut [u32],
 )
     requires { ⌜ Ready (network nodes (now firsts) (now seconds) (now lengths)) (now last) (now next) source (now dist) (now front) ⌝ }
-    ensures { λ _. ⌜ ((v : ℕ) → getD (now (dist .exit)) v 0 ≡ code (boundedDistance (network nodes (now (firsts .entry)) (now (seconds .entry)) (now (lengths .entry))) bound source v)) ⌝ }
+    ensures { λ _. ⌜ Searched (network nodes (now (firsts .entry)) (now (seconds .entry)) (now (lengths .entry))) source bound (now (dist .exit)) ⌝ }
 {
     clear(dist);
     dist[source as usize] = 1;

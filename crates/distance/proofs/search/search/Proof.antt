@@ -1,4 +1,4 @@
--- `search` keeps the state of specs/Search: see proofs/Picks for its start, its picks and its end, proofs/Follow for the arcs.
+-- `search` keeps the state of specs/Search: see proofs/Picks for its start and its picks, proofs/Follow for the arcs, proofs/Stops for its end.
 use mathlib.Core.Logic.{⊎-elim}
 use mathlib.Core.Path.{_≡_, _∙_, refl, sym, ap, subst}
 use Prim.Native.Nat.{ℕ, suc, _+_, _≤_, _<_, _-_}
@@ -10,7 +10,8 @@ use Rattle.distance.specs.Arcs.{lastArc}
 use Rattle.distance.specs.Search.{Ready, State, Following}
 use Rattle.distance.proofs.Follow.{arc-end, after-offer, all-followed, skip}
 use Rattle.distance.proofs.Offer.{few, front-has-room}
-use Rattle.distance.proofs.Picks.{start, pick, stopped, exhausted}
+use Rattle.distance.proofs.Picks.{start, pick}
+use Rattle.distance.proofs.Stops.{searched, searched-all}
 use Rattle.distance.proofs.Slots.{slot, reach, ready-again, chain-start, chain-next}
 use Rattle.distance.proofs.Nearest.{nearest-more}
 use Rattle.distance.proofs.Ways.{last-le, last-fixed, last-leads}
@@ -358,14 +359,9 @@ same-length-2 c = c .before .before .before .before .before .picking .inv .3 ∙
 -- src/search.rt:20:1
 returns : tie.Need-returns Inv-loop μ-loop Inv-loop2 μ-loop2 Inv-picking μ-picking
 returns c =
-    λ v.
     let s = c .before .before .before .before .before .picking in
     ⊎-elim
-    (λ w.
-    ⊎-elim
-    (λ x. x .1)
-    (λ x. absurd (omega (arith, x .0, exhausted (s .inv .1) (w .0 .taken) v)))
-    (stopped _ (s .inv .0 .ends) _ _ _ _ _ _ v (s .inv .1) (λ j h. omega arith)))
+    (λ w. searched-all (s .inv .0 .ends) (s .inv .0 .few-nodes) (s .inv .1) (w .0 .taken))
     (λ w. let z : _≡_ {A = ℕ} 0 1 = cc (w .4, c .enum-told .given .1) in absurd (omega arith))
     (c .before .before .if2 .came)
 
@@ -380,12 +376,10 @@ same-length-4 c = c .before .before .before .before .before .before .before .bef
 -- src/search.rt:20:1
 returns-2 : tie.Need-returns-2 Inv-loop μ-loop Inv-loop2 μ-loop2 Inv-picking μ-picking
 returns-2 c =
-    λ v.
     let s = c .before .before .before .before .before .before .before .before .before .picking in
-    let clip = c .before .before .clip .ensures v in
-    ⊎-elim (λ x. clip .near (x .0) ∙ x .1) (λ x. clip .far (x .0) ∙ x .1)
-    (stopped _ (s .inv .0 .ends) _ _ _ _ _ _ v (s .inv .1)
-    (⊎-elim (λ w j h. omega arith) (λ w j h. omega (arith, c .before .before .before .before .before .before .before .before .loop .inv .2 j (omega arith))) (c .before .before .before .before .before .before .if2 .came)))
+    searched (s .inv .0 .ends) (s .inv .0 .few-nodes) (s .inv .1)
+    (⊎-elim (λ w j h. omega arith) (λ w j h. omega (arith, c .before .before .before .before .before .before .before .before .loop .inv .2 j (omega arith))) (c .before .before .before .before .before .before .if2 .came))
+    _ (c .before .before .clip .ensures)
 
 pub search-spec : {M : Type 1} → statement M
 search-spec =

@@ -1,0 +1,46 @@
+-- Rows of entries: how one is copied, and that it is the row of distances.
+use mathlib.Core.List.{List, [], _∷_, _++_, map}
+use mathlib.Core.Path.{_≡_, _∙_, refl, sym, ap}
+use Prim.Native.Nat.{ℕ, zero, suc, _+_, _≤_, _<_}
+use native.Mathlib.Numerals.{add-one}
+use native.Mathlib.Omega.{arith}
+use lib.ListN.{length, getD, take, drop, set, length-take, length-drop, length-map}
+use lib.Seq.{drop-cons, take-suc, append-snoc, set-at, length-take-le, getD-take, getD-drop}
+use Rattle.model.proofs.Laws.Lists.{numbers-length}
+use Rattle.model.specs.Counting.{numbersFrom}
+use Rattle.model.specs.Distance.{code}
+use Rattle.model.specs.Network.{Network}
+use Rattle.model.specs.NodeDistance.{boundedDistance}
+use Rattle.distance.specs.Answers.{distanceRow}
+use Rattle.distance.specs.Search.{Searched}
+
+-- one entry more has been copied
+pub copy-more : (from old new : List ℕ) (k : ℕ) → k < length from → k < length old → new ≡ take k from ++ drop k old → set new k (getD from k 0) ≡ take (k + 1) from ++ drop (k + 1) old
+copy-more from old new k inside room e =
+    ap (λ (l : List ℕ). set l k (getD from k 0)) (e ∙ ap (λ (l : List ℕ). take k from ++ l) (drop-cons old k 0 room))
+    ∙ set-at (take k from) (getD old k 0) (drop (suc k) old) (getD from k 0) k (length-take-le k from (omega arith))
+    ∙ sym (rw (add-one, take-suc from k 0 inside, append-snoc))
+
+-- a list whose entries are those of f from start on
+pub all-entries : (f : ℕ → ℕ) (l : List ℕ) (start n : ℕ) → length l ≡ n → ((k : ℕ) → k < n → getD l k 0 ≡ f (start + k)) → l ≡ map f (numbersFrom start n)
+unfolding numbersFrom
+all-entries f [] start zero e h = refl
+all-entries f [] start (suc n) e h = absurd (omega arith)
+all-entries f (x ∷ l) start zero e h = absurd (omega arith)
+all-entries f (x ∷ l) start (suc n) e h = head (h 0 (omega arith)) (all-entries f l (suc start) n (omega arith) (λ k i. h (suc k) (omega arith) ∙ ap f (omega arith)))
+  where
+    head : x ≡ f (start + 0) → l ≡ map f (numbersFrom (suc start) n) → x ∷ l ≡ f start ∷ map f (numbersFrom (suc start) n)
+    head p q = rw (p ∙ ap f {y = start} (omega arith), ← q)
+
+-- what a search leaves, from node 1 on, is the row of distances
+pub searched-row : {net : Network} {source bound : ℕ} {dist : List ℕ} → Searched net source bound dist → net .nodes < length dist → take (net .nodes) (drop 1 dist) ≡ distanceRow net bound source
+unfolding distanceRow
+searched-row {net} {source} {bound} {dist} s room =
+    all-entries (λ v. code (boundedDistance net bound source v)) (take (net .nodes) (drop 1 dist)) 1 (net .nodes)
+    (length-take-le (net .nodes) (drop 1 dist) (rw length-drop (omega arith)))
+    (λ k h. getD-take (net .nodes) (drop 1 dist) k 0 h ∙ getD-drop 1 dist k 0 ∙ s .at (1 + k) .bounded)
+
+-- a row has an entry for each node
+pub row-length : (net : Network) (bound source : ℕ) → length (distanceRow net bound source) ≡ net .nodes
+unfolding distanceRow
+row-length net bound source = length-map (numbersFrom 1 (net .nodes)) (λ v. code (boundedDistance net bound source v)) ∙ numbers-length 1 (net .nodes)

@@ -1,0 +1,63 @@
+-- The verdicts on lent lists and answer lists, and what an answer list then holds.
+use mathlib.Core.Bool.{Bool, true, false, cond}
+use mathlib.Core.List.{List, _++_}
+use mathlib.Core.Path.{_≡_, _∙_, refl, sym, ap}
+use Prim.Native.Nat.{ℕ, _≤_, _<_}
+use lib.Dec.{eqb, leb}
+use lib.ListN.{length, drop}
+use borrow.Author.Tests.{le-leb, lt-leb, leb-true}
+use Rattle.model.proofs.Laws.Checks.{NodesAccepted, nodes-accepted}
+use Rattle.model.proofs.Laws.Refusal.{both-accepted, unless-accepted, or-else-next, or-else-refused, unless-accepts, unless-refuses}
+use Rattle.model.specs.Answer.{written}
+use Rattle.model.specs.Checks.{networkLists, networkValues, sameLength, roomCheck, loneNodeCheck, nodesOverNetworkCheck}
+use Rattle.model.specs.Network.{Network}
+use Rattle.model.specs.Refusal.{orElse, unless, listsDiffer}
+use Rattle.model.specs.declared.check.Check.{Check}
+use Rattle.model.specs.declared.check.Check.the-variants.{Accepted, Refused}
+use Rattle.distance.specs.Answers.{rowCheck}
+
+-- a refusal leaves an answer list as it was
+pub written-refused : {r : Check} {number place : ℕ} (answers old : List ℕ) → r ≡ Refused number place → old ≡ written r answers old
+unfolding written
+written-refused answers old e = rw e
+
+-- on acceptance the answers stand in front of what stood behind them
+pub written-accepted : {r : Check} {n : ℕ} (answers old new : List ℕ) → r ≡ Accepted → length answers ≡ n → new ≡ answers ++ drop n old → new ≡ written r answers old
+unfolding written
+written-accepted answers old new accepted e is = rw (accepted, e) is
+
+-- 2 is 2, whichever list it is for
+pub lists-first : (net : Network) (rest : Check) → rest ≡ Refused listsDiffer 0 → Refused listsDiffer 0 ≡ orElse (networkLists net) rest
+unfolding networkLists sameLength orElse unless
+lists-first net rest e = go (eqb (length (net .firsts)) (length (net .lengths))) (eqb (length (net .seconds)) (length (net .lengths)))
+  where
+    go : (a b : Bool) → Refused listsDiffer 0 ≡ orElse (orElse (cond a Accepted (Refused listsDiffer 0)) (cond b Accepted (Refused listsDiffer 0))) rest
+    go true true = sym e
+    go true false = refl
+    go false b = refl
+
+-- a check said twice
+or-else-same : (a : Check) → orElse a a ≡ a
+unfolding orElse
+or-else-same Accepted = refl
+or-else-same (Refused number place) = refl
+
+module _ (net : Network) (source : ℕ) (answers : List ℕ) where
+  -- the answer list is too short
+  pub row-short : length answers < net .nodes → Refused listsDiffer 0 ≡ rowCheck net source answers
+  unfolding rowCheck roomCheck
+  row-short h = lists-first net _ (or-else-refused _ (unless-refuses _ listsDiffer 0 (lt-leb (net .nodes) (length answers) h)))
+
+  -- the answer list has room: the rest decides
+  pub row-roomy : net .nodes ≤ length answers → nodesOverNetworkCheck net source source ≡ rowCheck net source answers
+  unfolding rowCheck roomCheck nodesOverNetworkCheck
+  row-roomy h =
+      ap (λ (lone : Check). orElse (networkLists net) (networkValues lone net)) (or-else-same (loneNodeCheck net source))
+      ∙ ap (orElse (networkLists net)) (sym (or-else-next _ (unless-accepts _ listsDiffer 0 (le-leb (net .nodes) (length answers) h))))
+
+  -- accepted: there is room, and the source is a node of the network
+  pub row-accepted : rowCheck net source answers ≡ Accepted → (net .nodes ≤ length answers) × NodesAccepted net source source
+  unfolding rowCheck roomCheck
+  row-accepted e =
+      let room : net .nodes ≤ length answers = leb-true (net .nodes) (length answers) (unless-accepted _ listsDiffer 0 (both-accepted _ _ (both-accepted _ _ e .1) .0)) in
+      (room, nodes-accepted net source source (row-roomy room ∙ e))

@@ -1,0 +1,57 @@
+-- `node_distance`: the answer is the check's refusal, or the entry decoded.
+use mathlib.Core.Path.{_∙_, sym}
+use native.Mathlib.Omega.{arith}
+use Rattle.distance.specs.Answers.{nodeAnswer}
+use Rattle.distance.proofs.Answered.{length-refused, length-accepted}
+use borrow.Author.Needs.{needs}
+use Rattle.distance.proofs.between.node_distance.Statement.{statement}
+use Rattle.distance.proofs.between.node_distance.Tie as tie
+use Rattle.distance.proofs.between.node_distance.Reads as reads
+use Rattle.distance.proofs.between.node_distance.Lts as lts
+use Rattle.distance.proofs.between.entry_between.Reads as entry-between-reads
+use Rattle.distance.proofs.between.length_of.Reads as length-of-reads
+use Rattle.validate.proofs.check_nodes.Reads as check-nodes-reads
+
+-- src/between.rt:85:11
+check-nodes-requires : tie.Need-check-nodes-requires
+check-nodes-requires c κs = search needs
+
+-- src/between.rt:86:24
+enum-known-number : tie.Need-enum-known-number
+enum-known-number c = search needs
+
+-- src/between.rt:88:23
+enum-told : tie.Need-enum-told
+enum-told c = search needs
+
+-- src/between.rt:88:23
+entry-between-requires : tie.Need-entry-between-requires
+entry-between-requires c κs = sym (c .before .before .check-nodes .ensures) ∙ c .enum-told .given .1
+
+-- src/between.rt:88:13
+length-of-requires : tie.Need-length-of-requires
+length-of-requires c κs = search needs
+
+-- src/between.rt:75:1
+returns : tie.Need-returns
+unfolding nodeAnswer
+returns c = length-refused _ (sym (c .before .before .before .check-nodes .ensures) ∙ c .before .number .given .1)
+
+-- src/between.rt:75:1
+returns-2 : tie.Need-returns-2
+unfolding nodeAnswer
+returns-2 c =
+    length-accepted _ (sym (c .before .before .before .before .check-nodes .ensures) ∙ c .before .before .enum-told .given .1)
+    (c .length-of .ensures _ (c .before .entry-between .ensures .whole (omega arith)))
+
+pub node-distance-spec : {M : Type 1} → statement M
+node-distance-spec =
+    tie.close
+    (tie.spec
+    check-nodes-requires
+    enum-known-number
+    enum-told
+    entry-between-requires
+    length-of-requires
+    returns
+    returns-2)

@@ -1,0 +1,77 @@
+-- `distances_from`: the verdict is the check's; on acceptance the row stands in front of the answers.
+use mathlib.Core.Path.{_≡_, _∙_, sym}
+use native.Mathlib.Omega.{arith}
+use Rattle.model.specs.Network.{network}
+use Rattle.model.specs.declared.check.Check.the-variants.{Accepted}
+use Rattle.distance.specs.Answers.{rowCheck}
+use Rattle.distance.proofs.Entries.{row-length}
+use Rattle.distance.proofs.Rooms.{askable}
+use Rattle.distance.proofs.Verdicts.{row-accepted, written-refused, written-accepted}
+use borrow.Author.Needs.{needs}
+use Rattle.distance.proofs.row.distances_from.Statement.{statement}
+use Rattle.distance.proofs.row.distances_from.Tie as tie
+use Rattle.distance.proofs.row.distances_from.Reads as reads
+use Rattle.distance.proofs.row.distances_from.Lts as lts
+use Rattle.distance.proofs.row.check_row.Reads as check-row-reads
+use Rattle.distance.proofs.row.write_row.Reads as write-row-reads
+
+-- src/row.rt:76:9
+check-row-requires : tie.Need-check-row-requires
+check-row-requires c κs = search needs
+
+-- src/row.rt:78:9
+enum-told : tie.Need-enum-told
+enum-told c = search needs
+
+-- src/row.rt:78:9
+same-length : tie.Need-same-length
+same-length c = search needs
+
+-- src/row.rt:78:9
+returns : tie.Need-returns
+returns c =
+    let verdict = c .before .before .check-row .ensures in
+    record { verdict = verdict; after = written-refused _ _ (sym verdict ∙ c .enum-told .given .1) }
+
+enum-told-2 : tie.Need-enum-told-2
+enum-told-2 c = search needs
+
+-- past the check
+accepted : (c : tie.After-enum-told2) → rowCheck (network (c .before .before .before .before .before .before .before .before .args .nodes) (c .before .before .before .before .before .before .before .before .args .firsts .now) (c .before .before .before .before .before .before .before .before .args .seconds .now) (c .before .before .before .before .before .before .before .before .args .lengths .now)) (c .before .before .before .before .before .before .before .before .args .source) (c .before .before .before .before .before .before .before .before .args .answers .now) ≡ Accepted
+accepted c = sym (c .before .before .check-row .ensures) ∙ c .enum-told2 .given .1
+
+-- src/row.rt:81:63
+slice-aggregate-write-row : tie.Need-slice-aggregate-write-row
+slice-aggregate-write-row c = search needs
+
+-- src/row.rt:81:5
+write-row-requires : tie.Need-write-row-requires
+write-row-requires c κs =
+    let a = row-accepted _ _ _ (accepted (c .before .before)) in
+    (askable (a .1 .is-network) (a .1 .first-node) (search needs), a .0)
+
+-- src/row.rt:65:1
+same-length-2 : tie.Need-same-length-2
+same-length-2 c = search needs
+
+-- src/row.rt:65:1
+returns-2 : tie.Need-returns-2
+returns-2 c =
+    record {
+      verdict = c .before .before .before .before .before .before .before .before .check-row .ensures;
+      after = written-accepted _ _ _ (accepted (c .before .before .before .before .before .before)) (row-length _ _ _) (c .before .before .before .write-row .ensures);
+    }
+
+pub distances-from-spec : {M : Type 1} → statement M
+distances-from-spec =
+    tie.close
+    (tie.spec
+    check-row-requires
+    enum-told
+    same-length
+    returns
+    enum-told-2
+    slice-aggregate-write-row
+    write-row-requires
+    same-length-2
+    returns-2)
