@@ -221,3 +221,11 @@ edge-location net nodes i x e h = located (placed net i x e h)
 pub is-location : (net : Network) → EndsAreNodes net → (e : Event) → IsEvent net e → IsLocation net (eventLocation net e)
 unfolding eventLocation
 is-location net nodes e v = edge-location net nodes (pred (e .edge)) (e .offset) (omega arith) (v .on-edge)
+
+-- the location at an offset of an edge is as far from any other as the offset inside, seen with both ends of the edge
+pub from-inside : (net : Network) → EndsAreNodes net → (i x : ℕ) → i < edges net → x ≤ size net i → (q : Location) → locationDistance net (locationOf net i x) q ≡ locationDistance net (inside i x) q
+from-inside net nodes i x e h q =
+    let s = placed net i x e h in
+    least-unique
+    (location-distance net nodes (locationOf net i x) q)
+    (least-matched (location-distance net nodes (inside i x) q) (λ n w. placed-walk s w) (λ n w. (n, inside-walk s w, omega arith)))

@@ -1,0 +1,85 @@
+// Distances as codes: 0 for none, else one more than the metres.
+ghost use mathlib.Core.Path.{_≡_};
+ghost use Prim.Native.Nat.{_-_, _≤_};
+ghost use Rattle.model.specs.Counting.{one-if};
+ghost use Rattle.model.specs.Distance.{code, least, plus, metres, exactly};
+ghost use Rattle.perimeter.specs.Reach.{distanceOf, byEnds, stretchOf, leftOf, farthest};
+
+// The lesser of two.
+pub fn lesser(a: u64, b: u64) -> u64
+    ensures { λ r. ⌜ r ≡ code (least (distanceOf a) (distanceOf b)) ⌝ }
+{
+    if a == 0 {
+        return b;
+    }
+    if b == 0 {
+        return a;
+    }
+    if a < b { a } else { b }
+}
+
+// A distance after so many metres.
+fn after(gap: u64, c: u64) -> u64
+    requires { ⌜ (gap ≤ farthest) × (c ≤ farthest) ⌝ }
+    ensures { λ r. ⌜ r ≡ code (plus (metres gap) (distanceOf c)) ⌝ }
+{
+    if c == 0 {
+        return 0;
+    }
+    gap + c
+}
+
+// By the first of two ends or by the second, whichever is nearer.
+pub fn by_ends(gap1: u64, gap2: u64, end1: u64, end2: u64) -> u64
+    requires { ⌜ (gap1 ≤ farthest) × (gap2 ≤ farthest) ⌝ }
+    requires { ⌜ (end1 ≤ farthest) × (end2 ≤ farthest) ⌝ }
+    ensures { λ r. ⌜ r ≡ code (byEnds gap1 gap2 (distanceOf end1) (distanceOf end2)) ⌝ }
+{
+    lesser(after(gap1, end1), after(gap2, end2))
+}
+
+// The first number less the second, 0 if that is negative.
+pub fn less(a: u64, b: u64) -> u64
+    ensures { λ r. ⌜ r ≡ a - b ⌝ }
+{
+    if a < b {
+        return 0;
+    }
+    a - b
+}
+
+// Along one edge from one offset to another; none where they lie on different edges.
+pub fn stretch(own: bool, x: u64, y: u64) -> u64
+    requires { ⌜ (x ≤ farthest) × (y ≤ farthest) ⌝ }
+    ensures { λ r. ⌜ r ≡ code (stretchOf own x y) ⌝ }
+{
+    if !own {
+        return 0;
+    }
+    less(x, y) + less(y, x) + 1
+}
+
+// What a distance leaves of the radius, 0 if nothing or if there is none.
+pub fn left(radius: u64, c: u64) -> u64
+    ensures { λ r. ⌜ r ≡ leftOf radius (distanceOf c) ⌝ }
+{
+    if c == 0 {
+        return 0;
+    }
+    less(radius, c - 1)
+}
+
+// At exactly the radius.
+pub fn is_at(c: u64, radius: u64) -> bool
+    requires { ⌜ radius ≤ farthest ⌝ }
+    ensures { λ r. ⌜ r ≡ exactly (distanceOf c) radius ⌝ }
+{
+    c == radius + 1
+}
+
+// 1 where the test holds, else 0.
+pub fn one(test: bool) -> u32
+    ensures { λ r. ⌜ r ≡ one-if test ⌝ }
+{
+    if test { 1 } else { 0 }
+}
