@@ -9,6 +9,9 @@ use Rattle.model.specs.Distance.{code}
 use Rattle.model.specs.Events.{Event, event, events, having, sorted, setSize, setCount}
 use Rattle.model.specs.Network.{Network, IsNode, first, second}
 use Rattle.model.specs.NodeDistance.{boundedDistance}
+use Rattle.model.specs.declared.check.Check.{Check}
+use Rattle.model.specs.declared.check.Check.the-variants.{Accepted}
+use Rattle.prepare.specs.Counts.{countsCheck}
 
 -- the events of set s, laid out
 unfoldable pub laidOutSet : List ℕ → List Event → ℕ → List Event
@@ -52,3 +55,9 @@ pub record Prepared (net : Network) (sets es xs ts edges offsets bounds setRuns 
   pub runs : Runs sets edges bounds setRuns (length es)
   pub from-first : (k v : ℕ) → k < length es → IsNode net v → entry net table (first net (pred (getD es k 0))) v ≡ code (boundedDistance net (greatest ts) (first net (pred (getD es k 0))) v)
   pub from-second : (k v : ℕ) → k < length es → IsNode net v → entry net table (second net (pred (getD es k 0))) v ≡ code (boundedDistance net (greatest ts) (second net (pred (getD es k 0))) v)
+
+-- the promise of preparing: its verdict, and on acceptance what the five lists hold then. They are working storage of the caller, so
+-- what they hold on refusal is free
+pub record Ready (net : Network) (sets es xs ts : List ℕ) (room : ℕ) (r : Check) (edges offsets bounds setRuns table : List ℕ) : Type 0 where
+  pub verdict : r ≡ countsCheck net sets es xs ts room
+  pub prepared : countsCheck net sets es xs ts room ≡ Accepted → Prepared net sets es xs ts edges offsets bounds setRuns table

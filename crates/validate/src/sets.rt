@@ -58,7 +58,7 @@ fn count_sets(sets: &[u32]) -> [usize; SETS]
 }
 
 // The greatest set number, 0 if there is none.
-fn greatest_set(sets: &[u32]) -> u32
+pub fn greatest_set(sets: &[u32]) -> u32
     ensures { λ r. ⌜ r ≡ greatestSet (now (sets .entry)) ⌝ }
 {
     let mut greatest = 0;
