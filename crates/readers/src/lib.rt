@@ -1,5 +1,55 @@
 // Readers of the three texts.
+mod answer_list;
 mod answers;
+mod events;
+mod header;
+mod length;
+mod line;
+mod number;
+mod thresholds;
 
 pub use answers::ReadList;
 pub use answers::ReadNetwork;
+ghost use Rattle.readers.specs.Answers.{ThresholdsRead, EventsRead};
+ghost use Rattle.model.specs.Network.{network};
+use model::EventSet;
+use model::Thresholds;
+
+// A threshold text.
+pub fn read_thresholds(text: &[u8], thresholds: &mut [u32]) -> ReadList
+    ensures { λ r. ⌜ ThresholdsRead (now (text .entry)) (now (thresholds .entry)) r (now (thresholds .exit)) ⌝ }
+{
+    let mut list = [0u32; Thresholds::MAX_THRESHOLDS];
+    thresholds::read_through(text, &mut list, thresholds)
+}
+
+// A report text over a lent network.
+pub fn read_events(
+    text: &[u8],
+    nodes: u32,
+    firsts: &[u32],
+    seconds: &[u32],
+    lengths: &[u32],
+    sets: &mut [u32],
+    edges: &mut [u32],
+    offsets: &mut [u32],
+) -> ReadList
+    ensures { λ r. ⌜ EventsRead (network nodes (now (firsts .entry)) (now (seconds .entry)) (now (lengths .entry))) (now (text .entry)) (now (sets .entry)) (now (edges .entry)) (now (offsets .entry)) r (now (sets .exit)) (now (edges .exit)) (now (offsets .exit)) ⌝ }
+{
+    let mut xs = [0u32; EventSet::MAX_EVENTS];
+    let mut ys = [0u32; EventSet::MAX_EVENTS];
+    let mut zs = [0u32; EventSet::MAX_EVENTS];
+    events::read_through(
+        text,
+        nodes,
+        firsts,
+        seconds,
+        lengths,
+        &mut xs,
+        &mut ys,
+        &mut zs,
+        sets,
+        edges,
+        offsets,
+    )
+}

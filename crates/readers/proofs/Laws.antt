@@ -1,0 +1,3 @@
+-- What a reader accepts no later function refuses.
+pub mod Kept
+pub mod Events

@@ -1,0 +1,108 @@
+-- The rows of an accepted report text pass every check that later functions make.
+use mathlib.Core.Bool.{true}
+use mathlib.Core.List.{List, [], _∷_, _++_, map}
+use mathlib.Core.Path.{_≡_, refl, sym, ap, _∙_}
+use Prim.Native.Nat.{ℕ, suc, pred, _≤_, _<_}
+use native.Mathlib.Omega.{arith}
+use borrow.Author.Tests.{le-leb}
+use lib.Dec.{leb}
+use lib.ListN.{length, getD, length-append, length-map, List·getD-map}
+use Rattle.model.proofs.Laws.Refusal.{both-accepted, or-else-next, below-good, unless-accepts}
+use Rattle.model.proofs.Laws.CheckParts.{same-length-accepts}
+use Rattle.model.specs.Checks.{networkCheck, networkLists, networkValues, setLists, eventLists, setsCheck, edgesCheck, offsetsCheck, eventsCheck, eventValues, equalSetsCheck, setsOverNetworkCheck}
+use Rattle.model.specs.Limits.{maxSet, maxEvents}
+use Rattle.model.specs.Network.{Network, edges, size}
+use Rattle.model.specs.Refusal.{orElse, isBetween, badSet, noEdge, beyondEdge, tooManyEvents}
+use Rattle.model.specs.declared.check.Check.the-variants.{Accepted}
+use Rattle.text.specs.EventText.{Row, EventState, before-header, rows, eventStep, eventEnd, eventLines}
+use Rattle.text.specs.Reading.{Step, taken, Outcome, read, refusedAt, readLines, require, noHeader}
+use Rattle.readers.specs.EventSteps.{row}
+use Rattle.readers.proofs.EventRows.{line-taken}
+use Rattle.readers.proofs.Laws.Kept.{all-kept, each-snoc}
+use Rattle.readers.proofs.Require.{passed}
+use Rattle.readers.proofs.RowSteps.{RowGood}
+
+-- every row passes 12 to 14, and there are not too many
+pub record RowsGood (net : Network) (all : List Row) : Type 0 where
+  pub each : (k : ℕ) → k < length all → RowGood net (getD all k (row 0 0 0))
+  pub few : length all ≤ maxEvents
+
+pub no-rows-good : (net : Network) → RowsGood net []
+no-rows-good net = record { each = λ k h. absurd (omega arith); few = omega arith }
+
+one-more-good : (net : Network) (all : List Row) (r : Row) → RowsGood net all → RowGood net r → length all < maxEvents → RowsGood net (all ++ (r ∷ []))
+one-more-good net all r g one room =
+    record {
+      each = each-snoc (RowGood net) (row 0 0 0) all r (g .each) one;
+      few = omega (arith, length-append all (r ∷ []));
+    }
+
+-- of what was read so far
+data StateGood (net : Network) : EventState → Type 0 where
+  none-yet : StateGood net before-header
+  some : {all : List Row} → RowsGood net all → StateGood net (rows all)
+
+rows-of : {net : Network} {all : List Row} → StateGood net (rows all) → RowsGood net all
+rows-of (some g) = g
+
+-- one more line keeps it
+line-keeps : (net : Network) (s : EventState) (line : List ℕ) (s′ : EventState) → StateGood net s → eventStep net s line ≡ taken s′ → StateGood net s′
+unfolding eventStep
+line-keeps net before-header line s′ g e = let is : rows [] ≡ s′ = cc (passed noHeader _ e .1) in rw (← is) (some (no-rows-good net))
+line-keeps net (rows all) line s′ (some g) e =
+    let t = line-taken net all _ e in
+    rw (← t .1 .is) (some (one-more-good net all (t .0) g (t .1 .good) (t .1 .few)))
+
+-- so the rows of a text that is read are good
+pub read-good : (net : Network) (lines : List (List ℕ)) (all : List Row) → eventLines net lines ≡ read all → RowsGood net all
+unfolding eventLines eventEnd
+read-good net lines all e = by (readLines (eventStep net) 1 before-header lines) (λ s is. all-kept (eventStep net) (StateGood net) (line-keeps net) 1 before-header lines none-yet is) e
+  where
+    by : (o : Outcome EventState) → ((s : EventState) → o ≡ read s → StateGood net s) → eventEnd o ≡ read all → RowsGood net all
+    by (read before-header) good f = absurd (let z : _≡_ {A = ℕ} 0 1 = cc in omega arith)
+    by (read (rows xs)) good f = let is : xs ≡ all = cc in rw (← is) (rows-of (good (rows xs) refl))
+    by (refusedAt number place) good f = absurd (let z : _≡_ {A = ℕ} 0 1 = cc in omega arith)
+
+-- The checks of lists, of the rows' three lists.
+module _ (net : Network) (all : List Row) (g : RowsGood net all) where
+  -- what stands at an index of one of the lists
+  at-index : (f : Row → ℕ) → f (row 0 0 0) ≡ 0 → (k : ℕ) → getD (map f all) k 0 ≡ f (getD all k (row 0 0 0))
+  at-index f none k = ap (getD (map f all) k) (sym none) ∙ List·getD-map f all k (row 0 0 0)
+
+  -- 12
+  sets-pass : setsCheck (map (λ r. r .set) all) ≡ Accepted
+  unfolding setsCheck
+  sets-pass = below-good badSet _ _ (λ k h. rw (at-index (λ r. r .set) refl k) (g .each k (omega (arith, length-map all (λ (r : Row). r .set))) .set-good))
+
+  -- 13
+  edges-pass : edgesCheck net (map (λ r. r .edge) all) ≡ Accepted
+  unfolding edgesCheck
+  edges-pass = below-good noEdge _ _ (λ k h. rw (at-index (λ r. r .edge) refl k) (g .each k (omega (arith, length-map all (λ (r : Row). r .edge))) .edge-good))
+
+  -- 14
+  offsets-pass : offsetsCheck net (map (λ r. r .edge) all) (map (λ r. r .offset) all) ≡ Accepted
+  unfolding offsetsCheck
+  offsets-pass =
+      below-good beyondEdge _ _
+      (λ k h. rw (at-index (λ r. r .offset) refl k, at-index (λ r. r .edge) refl k) (g .each k (omega (arith, length-map all (λ (r : Row). r .edge))) .offset-good))
+
+  -- 15
+  count-passes : eventsCheck (length (map (λ r. r .edge) all)) ≡ Accepted
+  unfolding eventsCheck
+  count-passes = let few : length (map (λ r. r .edge) all) ≤ maxEvents = omega (arith, g .few, length-map all (λ (r : Row). r .edge)) in
+      unless-accepts _ tooManyEvents maxEvents (le-leb _ _ few)
+
+  -- 2
+  lists-pass : setLists (map (λ r. r .set) all) (map (λ r. r .edge) all) (map (λ r. r .offset) all) ≡ Accepted
+  unfolding setLists eventLists
+  lists-pass =
+      or-else-next _ (same-length-accepts _ _ (length-map all (λ (r : Row). r .set) ∙ sym (length-map all (λ (r : Row). r .edge))))
+      ∙ same-length-accepts _ _ (length-map all (λ (r : Row). r .edge) ∙ sym (length-map all (λ (r : Row). r .offset)))
+
+  -- over an accepted network only 16 is left to ask
+  pub sixteen-left : networkCheck net ≡ Accepted → setsOverNetworkCheck net (map (λ r. r .set) all) (map (λ r. r .edge) all) (map (λ r. r .offset) all) ≡ equalSetsCheck (map (λ r. r .set) all)
+  unfolding networkCheck setsOverNetworkCheck eventValues
+  sixteen-left e =
+      let both = both-accepted (networkLists net) (networkValues Accepted net) e in
+      or-else-next _ (both .0) ∙ or-else-next _ lists-pass ∙ or-else-next _ (both .1) ∙ or-else-next _ sets-pass
+      ∙ or-else-next _ (or-else-next _ edges-pass ∙ or-else-next _ offsets-pass ∙ count-passes)
