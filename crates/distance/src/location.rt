@@ -101,7 +101,9 @@ fn entry_with(
         y,
         dist,
     );
-    lesser(lesser(from_first, from_second), along_edge(i, x, j, y))
+    let by_ends = lesser(from_first, from_second);
+    let stretch = along_edge(i, x, j, y);
+    lesser(by_ends, stretch)
 }
 
 fn entry_of(
