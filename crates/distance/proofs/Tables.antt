@@ -20,7 +20,8 @@ use Rattle.model.specs.declared.check.Check.{Check}
 use Rattle.model.specs.declared.check.Check.the-variants.{Accepted, Refused}
 use Rattle.distance.specs.Answers.{distanceRow, tableRows, table, tableCheck, TableAnswered}
 use Rattle.distance.specs.Table.{Fillable}
-use Rattle.distance.proofs.Verdicts.{lists-first, written-accepted}
+use Rattle.distance.proofs.Verdicts.{lists-first}
+use Rattle.model.proofs.Laws.Answer.{written-accepted}
 
 -- the square of a number of 32 bits
 pub square-small : {n : ℕ} → n ≤ 4294967295 → n * n ≤ 4294967295 * 4294967295

@@ -16,16 +16,6 @@ use Rattle.model.specs.declared.check.Check.{Check}
 use Rattle.model.specs.declared.check.Check.the-variants.{Accepted, Refused}
 use Rattle.distance.specs.Answers.{rowCheck}
 
--- a refusal leaves an answer list as it was
-pub written-refused : {r : Check} {number place : ℕ} (answers old : List ℕ) → r ≡ Refused number place → old ≡ written r answers old
-unfolding written
-written-refused answers old e = rw e
-
--- on acceptance the answers stand in front of what stood behind them
-pub written-accepted : {r : Check} {n : ℕ} (answers old new : List ℕ) → r ≡ Accepted → length answers ≡ n → new ≡ answers ++ drop n old → new ≡ written r answers old
-unfolding written
-written-accepted answers old new accepted e is = rw (accepted, e) is
-
 -- 2 is 2, whichever list it is for
 pub lists-first : (net : Network) (rest : Check) → rest ≡ Refused listsDiffer 0 → Refused listsDiffer 0 ≡ orElse (networkLists net) rest
 unfolding networkLists sameLength orElse unless

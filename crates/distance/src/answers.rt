@@ -1,8 +1,5 @@
 // What the distance functions answer.
 
-// 2: lists that belong together differ in length, or an answer list is too short.
-pub const LISTS_DIFFER: u32 = 2;
-
 // The metres of a least distance, no walk, or a refusal's number and place.
 pub enum Length {
     Metres(u32),

@@ -5,7 +5,7 @@ ghost use lib.ListN.{length, getD};
 ghost use Rattle.distance.specs.Arcs.{tail, Linked};
 
 // Where an arc begins; with the lists swapped, where it ends.
-pub fn tail_of(firsts: &[u32], seconds: &[u32], arc: usize) -> u32
+pub(crate) fn tail_of(firsts: &[u32], seconds: &[u32], arc: usize) -> u32
     requires { ⌜ (arc / 2 < length (now firsts)) × (arc / 2 < length (now seconds)) ⌝ }
     ensures { λ r. ⌜ r ≡ tail (now (firsts .entry)) (now (seconds .entry)) arc ⌝ }
 {
@@ -14,7 +14,7 @@ pub fn tail_of(firsts: &[u32], seconds: &[u32], arc: usize) -> u32
 }
 
 // Links the arcs of each node into a chain.
-pub fn link(nodes: u32, firsts: &[u32], seconds: &[u32], last: &mut [u32], next: &mut [u32])
+pub(crate) fn link(nodes: u32, firsts: &[u32], seconds: &[u32], last: &mut [u32], next: &mut [u32])
     requires { ⌜ (length (now firsts) ≤ 1024) × (length (now seconds) ≡ length (now firsts)) ⌝ }
     requires { ⌜ (nodes < length (now last)) × (length (now firsts) + length (now firsts) ≤ length (now next)) ⌝ }
     requires { ⌜ ((a : ℕ) → a < length (now firsts) + length (now firsts) → tail (now firsts) (now seconds) a ≤ nodes) ⌝ }
@@ -32,7 +32,7 @@ pub fn link(nodes: u32, firsts: &[u32], seconds: &[u32], last: &mut [u32], next:
 }
 
 // Sets every entry to 0.
-pub fn clear(list: &mut [u32])
+pub(crate) fn clear(list: &mut [u32])
     ensures { λ _. ⌜ ((k : ℕ) → getD (now (list .exit)) k 0 ≡ 0) ⌝ }
 {
     let mut k = 0;

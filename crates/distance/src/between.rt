@@ -17,7 +17,7 @@ use model::Network;
 pub const WIDEST: u32 = 4_294_967_295;
 
 // An entry as an answer: 0 is no walk.
-pub fn length_of(entry: u32) -> Length
+pub(crate) fn length_of(entry: u32) -> Length
     ensures { λ r. ⌜ ((d : Distance) → entry ≡ code d → r ≡ lengthAnswer Accepted d) ⌝ }
 {
     if entry == 0 {

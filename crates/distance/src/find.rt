@@ -39,7 +39,7 @@ fn find_with(
 }
 
 // The entry of every node, from one source.
-pub fn find(
+pub(crate) fn find(
     nodes: u32,
     firsts: &[u32],
     seconds: &[u32],

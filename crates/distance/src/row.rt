@@ -6,7 +6,6 @@ ghost use lib.ListN.{length, take, drop};
 ghost use Rattle.model.specs.Network.{network};
 ghost use Rattle.distance.specs.Answers.{rowCheck, distanceRow, RowAnswered};
 ghost use Rattle.distance.specs.Search.{Askable};
-use crate::answers::LISTS_DIFFER;
 use crate::find::find;
 use model::Check;
 use model::Network;
@@ -23,13 +22,13 @@ fn check_row(
     ensures { λ r. ⌜ r ≡ rowCheck (network nodes (now (firsts .entry)) (now (seconds .entry)) (now (lengths .entry))) source (now (answers .entry)) ⌝ }
 {
     if answers.len() < nodes as usize {
-        return Check::Refused(LISTS_DIFFER, 0);
+        return Check::Refused(Check::LISTS_DIFFER, 0);
     }
     validate::check_nodes(nodes, firsts, seconds, lengths, source, source)
 }
 
 // Copies the entries of all nodes; node v's stands at index v - 1 of a row.
-pub fn copy_row(nodes: u32, dist: &[u32], row: &mut [u32])
+pub(crate) fn copy_row(nodes: u32, dist: &[u32], row: &mut [u32])
     requires { ⌜ (nodes < length (now dist)) × (nodes ≤ length (now row)) ⌝ }
     ensures { λ _. ⌜ now (row .exit) ≡ take nodes (drop 1 (now (dist .entry))) ++ drop nodes (now (row .entry)) ⌝ }
 {

@@ -15,7 +15,7 @@ enum Stop {
 
 // The entry of every node: 0 where no walk is within the bound, else one more than the least length.
 // Waiting nodes stand in the front in any order; each pick settles the nearest of them.
-pub fn search(
+pub(crate) fn search(
     nodes: u32,
     firsts: &[u32],
     seconds: &[u32],

@@ -10,7 +10,6 @@ ghost use Rattle.model.specs.Network.{network};
 ghost use Rattle.distance.specs.Answers.{tableCheck, distanceRow, table, TableAnswered};
 ghost use Rattle.distance.specs.Search.{Ready, Rooms};
 ghost use Rattle.distance.specs.Table.{Fillable, AnySource};
-use crate::answers::LISTS_DIFFER;
 use crate::arcs::link;
 use crate::row::copy_row;
 use crate::search::search;
@@ -29,10 +28,10 @@ fn check_table(
     ensures { λ r. ⌜ r ≡ tableCheck (network nodes (now (firsts .entry)) (now (seconds .entry)) (now (lengths .entry))) (now (wanted .entry)) (now (table .entry)) ⌝ }
 {
     if wanted.len() != nodes as usize {
-        return Check::Refused(LISTS_DIFFER, 0);
+        return Check::Refused(Check::LISTS_DIFFER, 0);
     }
     if (table.len() as u64) < nodes as u64 * nodes as u64 {
-        return Check::Refused(LISTS_DIFFER, 0);
+        return Check::Refused(Check::LISTS_DIFFER, 0);
     }
     validate::check_network(nodes, firsts, seconds, lengths)
 }

@@ -9,7 +9,7 @@ ghost use Rattle.layout.specs.Keys.{keyOf, edgeOf, offsetOf};
 const BASE: u64 = 4294967296;
 
 // Fills the keys of events.
-pub fn join(edges: &[u32], offsets: &[u32], keys: &mut [u64])
+pub(crate) fn join(edges: &[u32], offsets: &[u32], keys: &mut [u64])
     requires { ⌜ (length (now edges) ≡ length (now keys)) × (length (now offsets) ≡ length (now keys)) ⌝ }
     ensures { λ _. ⌜ now (keys .exit) ≡ map keyOf (events (now (edges .entry)) (now (offsets .entry))) ⌝ }
 {
@@ -21,7 +21,7 @@ pub fn join(edges: &[u32], offsets: &[u32], keys: &mut [u64])
 }
 
 // Takes keys apart into edges and offsets.
-pub fn part(keys: &[u64], edges: &mut [u32], offsets: &mut [u32])
+pub(crate) fn part(keys: &[u64], edges: &mut [u32], offsets: &mut [u32])
     requires { ⌜ (length (now edges) ≡ length (now keys)) × (length (now offsets) ≡ length (now keys)) ⌝ }
     ensures { λ _. ⌜ (now (edges .exit) ≡ map edgeOf (now (keys .entry))) × (now (offsets .exit) ≡ map offsetOf (now (keys .entry))) ⌝ }
 {

@@ -1,9 +1,8 @@
--- What the constructors of the types with limits answer: the sizes, or refusal 6, 15 or 18.
-use mathlib.Core.Bool.{cond, _&&_}
+-- What the constructors of the types with limits answer: the sizes, or what the check of the same number refuses with.
 use Prim.Native.Nat.{ℕ}
-use lib.Dec.{leb}
-use Rattle.model.specs.Limits.{maxNodes, maxEdges, maxEvents, maxThresholds}
-use Rattle.model.specs.Refusal.{isBetween, badSizes, tooManyEvents, badThresholds}
+use Rattle.model.specs.Checks.{sizesCheck, eventsCheck, thresholdCountCheck}
+use Rattle.model.specs.declared.check.Check.{Check}
+use Rattle.model.specs.declared.check.Check.the-variants.{Accepted, Refused}
 use Rattle.model.specs.declared.event_set.MadeEventSet.{MadeEventSet}
 use Rattle.model.specs.declared.event_set.MadeEventSet.the-variants as eventSet
 use Rattle.model.specs.declared.network.MadeNetwork.{MadeNetwork}
@@ -11,19 +10,16 @@ use Rattle.model.specs.declared.network.MadeNetwork.the-variants as net
 use Rattle.model.specs.declared.thresholds.MadeThresholds.{MadeThresholds}
 use Rattle.model.specs.declared.thresholds.MadeThresholds.the-variants as thresholds
 
+-- what is made where the check accepts, its refusal otherwise
+unfoldable pub madeBy : {Made : Type 0} → Check → Made → (ℕ → ℕ → Made) → Made
+madeBy Accepted made refusal = made
+madeBy (Refused number place) made refusal = refusal number place
+
 unfoldable pub networkOf : ℕ → ℕ → MadeNetwork
-networkOf nodes edges =
-    cond (isBetween 1 maxNodes nodes && isBetween 1 maxEdges edges)
-    (net.Made (record { nodes = nodes; edges = edges }))
-    (net.Refused badSizes 0)
+networkOf nodes edges = madeBy (sizesCheck nodes edges) (net.Made (record { nodes = nodes; edges = edges })) net.Refused
 
 unfoldable pub eventSetOf : ℕ → MadeEventSet
-eventSetOf len = cond (leb len maxEvents) (eventSet.Made (record { len = len })) (eventSet.Refused tooManyEvents maxEvents)
+eventSetOf len = madeBy (eventsCheck len) (eventSet.Made (record { len = len })) eventSet.Refused
 
 unfoldable pub thresholdsOf : ℕ → MadeThresholds
-thresholdsOf len =
-    cond (leb 1 len)
-    (cond (leb len maxThresholds)
-    (thresholds.Made (record { len = len }))
-    (thresholds.Refused badThresholds maxThresholds))
-    (thresholds.Refused badThresholds 0)
+thresholdsOf len = madeBy (thresholdCountCheck len) (thresholds.Made (record { len = len })) thresholds.Refused

@@ -3,6 +3,7 @@ ghost use mathlib.Core.Path.{_≡_};
 ghost use lib.Dec.{leb};
 ghost use Rattle.model.specs.Limits.{maxSet};
 ghost use Rattle.model.specs.Made.{eventSetOf};
+use crate::check::Check;
 
 pub struct EventSet {
     pub len: usize,
@@ -26,7 +27,7 @@ impl EventSet {
         if len <= EventSet::MAX_EVENTS {
             return MadeEventSet::Made(EventSet { len });
         }
-        MadeEventSet::Refused(15, EventSet::MAX_EVENTS)
+        MadeEventSet::Refused(Check::TOO_MANY_EVENTS, EventSet::MAX_EVENTS)
     }
 
     // 12: a set number up to the limit.

@@ -3,6 +3,7 @@ ghost use mathlib.Core.Path.{_≡_};
 ghost use Rattle.model.specs.Limits.{maxLength};
 ghost use Rattle.model.specs.Refusal.{isBetween};
 ghost use Rattle.model.specs.Made.{networkOf};
+use crate::check::Check;
 use crate::check::is_between;
 
 pub struct Network {
@@ -27,10 +28,10 @@ impl Network {
         ensures { λ r. ⌜ r ≡ networkOf nodes edges ⌝ }
     {
         if !is_between(1, Network::MAX_NODES as u64, nodes as u64) {
-            return MadeNetwork::Refused(6, 0);
+            return MadeNetwork::Refused(Check::BAD_SIZES, 0);
         }
         if !is_between(1, Network::MAX_EDGES as u64, edges as u64) {
-            return MadeNetwork::Refused(6, 0);
+            return MadeNetwork::Refused(Check::BAD_SIZES, 0);
         }
         MadeNetwork::Made(Network { nodes, edges })
     }

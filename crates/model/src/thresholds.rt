@@ -1,6 +1,7 @@
 // The size of a threshold list, with its limit.
 ghost use mathlib.Core.Path.{_≡_};
 ghost use Rattle.model.specs.Made.{thresholdsOf};
+use crate::check::Check;
 
 pub struct Thresholds {
     pub len: usize,
@@ -19,10 +20,10 @@ impl Thresholds {
         ensures { λ r. ⌜ r ≡ thresholdsOf len ⌝ }
     {
         if len < 1 {
-            return MadeThresholds::Refused(18, 0);
+            return MadeThresholds::Refused(Check::BAD_THRESHOLDS, 0);
         }
         if Thresholds::MAX_THRESHOLDS < len {
-            return MadeThresholds::Refused(18, Thresholds::MAX_THRESHOLDS);
+            return MadeThresholds::Refused(Check::BAD_THRESHOLDS, Thresholds::MAX_THRESHOLDS);
         }
         MadeThresholds::Made(Thresholds { len })
     }

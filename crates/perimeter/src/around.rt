@@ -31,7 +31,7 @@ fn fill_row(
 }
 
 // The centre lies at an offset of the edge at an index.
-pub fn count_around(
+pub(crate) fn count_around(
     nodes: u32,
     firsts: &[u32],
     seconds: &[u32],

@@ -6,7 +6,7 @@ ghost use Rattle.model.specs.Distance.{code, least, plus, metres, exactly};
 ghost use Rattle.perimeter.specs.Reach.{distanceOf, byEnds, stretchOf, leftOf, farthest};
 
 // The lesser of two.
-pub fn lesser(a: u64, b: u64) -> u64
+pub(crate) fn lesser(a: u64, b: u64) -> u64
     ensures { λ r. ⌜ r ≡ code (least (distanceOf a) (distanceOf b)) ⌝ }
 {
     if a == 0 {
@@ -30,7 +30,7 @@ fn after(gap: u64, c: u64) -> u64
 }
 
 // By the first of two ends or by the second, whichever is nearer.
-pub fn by_ends(gap1: u64, gap2: u64, end1: u64, end2: u64) -> u64
+pub(crate) fn by_ends(gap1: u64, gap2: u64, end1: u64, end2: u64) -> u64
     requires { ⌜ (gap1 ≤ farthest) × (gap2 ≤ farthest) ⌝ }
     requires { ⌜ (end1 ≤ farthest) × (end2 ≤ farthest) ⌝ }
     ensures { λ r. ⌜ r ≡ code (byEnds gap1 gap2 (distanceOf end1) (distanceOf end2)) ⌝ }
@@ -39,7 +39,7 @@ pub fn by_ends(gap1: u64, gap2: u64, end1: u64, end2: u64) -> u64
 }
 
 // The first number less the second, 0 if that is negative.
-pub fn less(a: u64, b: u64) -> u64
+pub(crate) fn less(a: u64, b: u64) -> u64
     ensures { λ r. ⌜ r ≡ a - b ⌝ }
 {
     if a < b {
@@ -49,7 +49,7 @@ pub fn less(a: u64, b: u64) -> u64
 }
 
 // Along one edge from one offset to another; none where they lie on different edges.
-pub fn stretch(own: bool, x: u64, y: u64) -> u64
+pub(crate) fn stretch(own: bool, x: u64, y: u64) -> u64
     requires { ⌜ (x ≤ farthest) × (y ≤ farthest) ⌝ }
     ensures { λ r. ⌜ r ≡ code (stretchOf own x y) ⌝ }
 {
@@ -60,7 +60,7 @@ pub fn stretch(own: bool, x: u64, y: u64) -> u64
 }
 
 // What a distance leaves of the radius, 0 if nothing or if there is none.
-pub fn left(radius: u64, c: u64) -> u64
+pub(crate) fn left(radius: u64, c: u64) -> u64
     ensures { λ r. ⌜ r ≡ leftOf radius (distanceOf c) ⌝ }
 {
     if c == 0 {
@@ -70,7 +70,7 @@ pub fn left(radius: u64, c: u64) -> u64
 }
 
 // At exactly the radius.
-pub fn is_at(c: u64, radius: u64) -> bool
+pub(crate) fn is_at(c: u64, radius: u64) -> bool
     requires { ⌜ radius ≤ farthest ⌝ }
     ensures { λ r. ⌜ r ≡ exactly (distanceOf c) radius ⌝ }
 {
@@ -78,7 +78,7 @@ pub fn is_at(c: u64, radius: u64) -> bool
 }
 
 // 1 where the test holds, else 0.
-pub fn one(test: bool) -> u32
+pub(crate) fn one(test: bool) -> u32
     ensures { λ r. ⌜ r ≡ one-if test ⌝ }
 {
     if test { 1 } else { 0 }

@@ -92,7 +92,7 @@ fn count_insides(
 }
 
 // How many locations lie at exactly the radius.
-pub fn count_all(
+pub(crate) fn count_all(
     nodes: u32,
     firsts: &[u32],
     seconds: &[u32],

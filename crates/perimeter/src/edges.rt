@@ -67,7 +67,7 @@ fn first_met(s: Sight, y: u64, seen1: u64, seen2: u64, seen3: u64) -> u32
 
 // How many offsets are met. Only four can be: by either end, and on the centre's own edge before it or behind it.
 // Where two of them are the same one, as where two ways meet, it is counted once. (Offset 0 is never met.)
-pub fn count_met(s: Sight) -> u32
+pub(crate) fn count_met(s: Sight) -> u32
     requires { ⌜ InSight s ⌝ }
     ensures { λ r. ⌜ MetCounted s r ⌝ }
 {

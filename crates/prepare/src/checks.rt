@@ -17,7 +17,7 @@ fn has_room(sets: &[u32], thresholds: &[u32], room: usize) -> bool
 }
 
 // 2, 6 to 9, 12 to 16, 18 and 19. Every refusal 2 is at place 0, so that the room may be looked at first.
-pub fn check_counts(
+pub(crate) fn check_counts(
     nodes: u32,
     firsts: &[u32],
     seconds: &[u32],
@@ -31,7 +31,7 @@ pub fn check_counts(
     ensures { λ r. ⌜ r ≡ countsCheck (network nodes (now (firsts .entry)) (now (seconds .entry)) (now (lengths .entry))) (now (sets .entry)) (now (edges .entry)) (now (offsets .entry)) (now (thresholds .entry)) room ⌝ }
 {
     if !has_room(sets, thresholds, room) {
-        return Check::Refused(2, 0);
+        return Check::Refused(Check::LISTS_DIFFER, 0);
     }
     let events = validate::check_sets(nodes, firsts, seconds, lengths, sets, edges, offsets);
     if let Check::Refused(_, _) = events {

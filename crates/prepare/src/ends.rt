@@ -38,7 +38,7 @@ fn fill_rows(
 }
 
 // Fills the rows of both ends of each event's edge.
-pub fn end_table(
+pub(crate) fn end_table(
     nodes: u32,
     firsts: &[u32],
     seconds: &[u32],

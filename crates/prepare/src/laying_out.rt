@@ -4,7 +4,7 @@ use crate::SET_RUNS;
 use crate::runs::cut_sets;
 use crate::sets::lay_sets;
 
-pub fn lay_runs(
+pub(crate) fn lay_runs(
     sets: &[u32],
     edges: &[u32],
     offsets: &[u32],

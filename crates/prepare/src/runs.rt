@@ -33,7 +33,7 @@ fn cut(edges: &[u32], from: usize, to: usize, bounds: &mut [u32], runs: usize) -
 }
 
 // Cuts so many sets into runs, and notes the number of the run with which each begins.
-pub fn cut_sets(
+pub(crate) fn cut_sets(
     starts: &[u32],
     count: usize,
     edges: &[u32],

@@ -41,7 +41,7 @@ fn lay_set(
 }
 
 // Lays so many sets out, one after the other, and notes where each begins and the last ends.
-pub fn lay_sets(
+pub(crate) fn lay_sets(
     sets: &[u32],
     edges: &[u32],
     offsets: &[u32],

@@ -3,7 +3,7 @@ ghost use mathlib.Core.Path.{_≡_};
 ghost use Rattle.text.specs.Places.{firstAt, pairAt};
 
 // Where the byte x first stands, or the length where it does not.
-pub fn first_at(x: u8, bytes: &[u8]) -> usize
+pub(crate) fn first_at(x: u8, bytes: &[u8]) -> usize
     ensures { λ r. ⌜ r ≡ firstAt x (now (bytes .entry)) ⌝ }
 {
     let mut i = 0;
@@ -17,7 +17,7 @@ pub fn first_at(x: u8, bytes: &[u8]) -> usize
 }
 
 // Where x with y right behind it first stands, or the length where they do not.
-pub fn pair_at(x: u8, y: u8, bytes: &[u8]) -> usize
+pub(crate) fn pair_at(x: u8, y: u8, bytes: &[u8]) -> usize
     ensures { λ r. ⌜ r ≡ pairAt x y (now (bytes .entry)) ⌝ }
 {
     let mut i = 0;

@@ -1,12 +1,8 @@
 -- What the constructors of the types with limits answer, as the check of the same number.
-use mathlib.Core.Bool.{Bool, true, false, cond, _&&_}
 use mathlib.Core.Path.{_≡_, refl}
 use Prim.Native.Nat.{ℕ}
-use lib.Dec.{leb}
 use Rattle.model.specs.Checks.{sizesCheck, eventsCheck, thresholdCountCheck}
-use Rattle.model.specs.Limits.{maxNodes, maxEdges, maxEvents, maxThresholds}
-use Rattle.model.specs.Made.{networkOf, eventSetOf, thresholdsOf}
-use Rattle.model.specs.Refusal.{isBetween, orElse, unless, badSizes, tooManyEvents, badThresholds}
+use Rattle.model.specs.Made.{madeBy, networkOf, eventSetOf, thresholdsOf}
 use Rattle.model.specs.declared.check.Check.{Check}
 use Rattle.model.specs.declared.check.Check.the-variants.{Accepted, Refused}
 use Rattle.model.specs.declared.event_set.MadeEventSet.{MadeEventSet}
@@ -28,27 +24,20 @@ abbrev pub thresholdsAnswer : MadeThresholds → Check
 thresholdsAnswer (thresholds.Made list) = Accepted
 thresholdsAnswer (thresholds.Refused number place) = Refused number place
 
+-- reading the check off what it made gives the check back
+read-back : {Made : Type 0} (read : Made → Check) (made : Made) (refusal : ℕ → ℕ → Made) → read made ≡ Accepted → ((number place : ℕ) → read (refusal number place) ≡ Refused number place) → (check : Check) → read (madeBy check made refusal) ≡ check
+unfolding madeBy
+read-back read made refusal accepts refuses Accepted = accepts
+read-back read made refusal accepts refuses (Refused number place) = refuses number place
+
 pub sizes-answer : (nodes edges : ℕ) → networkAnswer (networkOf nodes edges) ≡ sizesCheck nodes edges
-unfolding networkOf sizesCheck unless
-sizes-answer nodes edges = by (isBetween 1 maxNodes nodes && isBetween 1 maxEdges edges)
-  where
-    by : (fits : Bool) → networkAnswer (cond fits (net.Made (record { nodes = nodes; edges = edges })) (net.Refused badSizes 0)) ≡ cond fits Accepted (Refused badSizes 0)
-    by true = refl
-    by false = refl
+unfolding networkOf
+sizes-answer nodes edges = read-back networkAnswer _ net.Refused refl (λ number place. refl) (sizesCheck nodes edges)
 
 pub events-answer : (count : ℕ) → eventsAnswer (eventSetOf count) ≡ eventsCheck count
-unfolding eventSetOf eventsCheck unless
-events-answer count = by (leb count maxEvents)
-  where
-    by : (fits : Bool) → eventsAnswer (cond fits (eventSet.Made (record { len = count })) (eventSet.Refused tooManyEvents maxEvents)) ≡ cond fits Accepted (Refused tooManyEvents maxEvents)
-    by true = refl
-    by false = refl
+unfolding eventSetOf
+events-answer count = read-back eventsAnswer _ eventSet.Refused refl (λ number place. refl) (eventsCheck count)
 
 pub thresholds-answer : (count : ℕ) → thresholdsAnswer (thresholdsOf count) ≡ thresholdCountCheck count
-unfolding thresholdsOf thresholdCountCheck unless orElse
-thresholds-answer count = by (leb 1 count) (leb count maxThresholds)
-  where
-    by : (some few : Bool) → thresholdsAnswer (cond some (cond few (thresholds.Made (record { len = count })) (thresholds.Refused badThresholds maxThresholds)) (thresholds.Refused badThresholds 0)) ≡ orElse (cond some Accepted (Refused badThresholds 0)) (cond few Accepted (Refused badThresholds maxThresholds))
-    by true true = refl
-    by true false = refl
-    by false few = refl
+unfolding thresholdsOf
+thresholds-answer count = read-back thresholdsAnswer _ thresholds.Refused refl (λ number place. refl) (thresholdCountCheck count)

@@ -6,9 +6,6 @@ ghost use Rattle.model.specs.Events.{event, before};
 ghost use Rattle.model.specs.Refusal.{orElse};
 ghost use Rattle.validate.specs.Part.{withLengths};
 ghost use Rattle.model.specs.Checks.{edgesCheck, offsetsCheck, eventsCheck, eventValues, orderCheck, loneEdgeCheck, loneOffsetCheck};
-use crate::number::BEYOND_EDGE;
-use crate::number::NO_EDGE;
-use crate::number::NOT_IN_ORDER;
 use crate::number::is_on_edge;
 use crate::number::names_one;
 use model::Check;
@@ -16,22 +13,22 @@ use model::EventSet;
 use model::MadeEventSet;
 
 // 13 for a lone edge number.
-pub fn check_lone_edge(lengths: &[u32], edge: u32) -> Check
+pub(crate) fn check_lone_edge(lengths: &[u32], edge: u32) -> Check
     ensures { λ r. ⌜ r ≡ loneEdgeCheck (withLengths (now (lengths .entry))) edge ⌝ }
 {
     if !names_one(lengths.len() as u64, edge) {
-        return Check::Refused(NO_EDGE, 0);
+        return Check::Refused(Check::NO_EDGE, 0);
     }
     Check::Accepted
 }
 
 // 14 for a lone location, whose edge number names an edge.
-pub fn check_lone_offset(lengths: &[u32], edge: u32, offset: u32) -> Check
+pub(crate) fn check_lone_offset(lengths: &[u32], edge: u32, offset: u32) -> Check
     requires { ⌜ (1 ≤ edge) × (edge ≤ length (now lengths)) ⌝ }
     ensures { λ r. ⌜ r ≡ loneOffsetCheck (withLengths (now (lengths .entry))) edge offset ⌝ }
 {
     if !is_on_edge(lengths, edge, offset) {
-        return Check::Refused(BEYOND_EDGE, 0);
+        return Check::Refused(Check::BEYOND_EDGE, 0);
     }
     Check::Accepted
 }
@@ -43,7 +40,7 @@ fn check_edges(lengths: &[u32], edges: &[u32]) -> Check
     let mut k = 0;
     while k < edges.len() {
         if !names_one(lengths.len() as u64, edges[k]) {
-            return Check::Refused(NO_EDGE, k);
+            return Check::Refused(Check::NO_EDGE, k);
         }
         k += 1;
     }
@@ -58,7 +55,7 @@ fn check_offsets(lengths: &[u32], edges: &[u32], offsets: &[u32]) -> Check
     let mut k = 0;
     while k < edges.len() {
         if !is_on_edge(lengths, edges[k], offsets[k]) {
-            return Check::Refused(BEYOND_EDGE, k);
+            return Check::Refused(Check::BEYOND_EDGE, k);
         }
         k += 1;
     }
@@ -66,7 +63,7 @@ fn check_offsets(lengths: &[u32], edges: &[u32], offsets: &[u32]) -> Check
 }
 
 // 15: more events than may be held, at the first surplus one.
-pub fn check_count(count: usize) -> Check
+pub(crate) fn check_count(count: usize) -> Check
     ensures { λ r. ⌜ r ≡ eventsCheck count ⌝ }
 {
     match EventSet::new(count) {
@@ -76,7 +73,7 @@ pub fn check_count(count: usize) -> Check
 }
 
 // 13 to 15.
-pub fn check_events(lengths: &[u32], edges: &[u32], offsets: &[u32]) -> Check
+pub(crate) fn check_events(lengths: &[u32], edges: &[u32], offsets: &[u32]) -> Check
     requires { ⌜ length (now edges) ≡ length (now offsets) ⌝ }
     ensures { λ r. ⌜ r ≡ eventValues (withLengths (now (lengths .entry))) (now (edges .entry)) (now (offsets .entry)) ⌝ }
 {
@@ -112,7 +109,7 @@ fn check_order(edges: &[u32], offsets: &[u32]) -> Check
     let mut k = 1;
     while k < edges.len() {
         if is_before(edges[k], offsets[k], edges[k - 1], offsets[k - 1]) {
-            return Check::Refused(NOT_IN_ORDER, k);
+            return Check::Refused(Check::NOT_IN_ORDER, k);
         }
         k += 1;
     }
@@ -120,7 +117,7 @@ fn check_order(edges: &[u32], offsets: &[u32]) -> Check
 }
 
 // 13 for the number of one edge, then 13 to 15 and 17 for events given as laid out.
-pub fn check_laid_out(lengths: &[u32], edges: &[u32], offsets: &[u32], edge: u32) -> Check
+pub(crate) fn check_laid_out(lengths: &[u32], edges: &[u32], offsets: &[u32], edge: u32) -> Check
     requires { ⌜ length (now edges) ≡ length (now offsets) ⌝ }
     ensures { λ r. ⌜ r ≡ orElse (loneEdgeCheck (withLengths (now (lengths .entry))) edge) (orElse (eventValues (withLengths (now (lengths .entry))) (now (edges .entry)) (now (offsets .entry))) (orderCheck (now (edges .entry)) (now (offsets .entry)))) ⌝ }
 {

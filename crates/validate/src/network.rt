@@ -6,9 +6,6 @@ ghost use Rattle.model.specs.Network.{network};
 ghost use Rattle.model.specs.Refusal.{isBetween, orElse};
 ghost use Rattle.validate.specs.Part.{withNodes, withLengths, withEdges};
 ghost use Rattle.model.specs.Checks.{networkLists, networkValues, sizesCheck, nodesCheck, selfCheck, lengthsCheck, loneNodeCheck};
-use crate::number::BAD_LENGTH;
-use crate::number::BAD_NODE;
-use crate::number::SELF_JOINED;
 use crate::number::names_one;
 use crate::number::same_length;
 use model::Check;
@@ -16,7 +13,7 @@ use model::MadeNetwork;
 use model::Network;
 
 // 2.
-pub fn check_lists(firsts: &[u32], seconds: &[u32], lengths: &[u32]) -> Check
+pub(crate) fn check_lists(firsts: &[u32], seconds: &[u32], lengths: &[u32]) -> Check
     ensures { λ r. ⌜ r ≡ networkLists (withEdges (now (firsts .entry)) (now (seconds .entry)) (now (lengths .entry))) ⌝ }
 {
     let firsts_differ = same_length(firsts, lengths);
@@ -54,7 +51,7 @@ fn check_ends(nodes: u32, firsts: &[u32], seconds: &[u32], lengths: &[u32]) -> C
     let mut k = 0;
     while k < lengths.len() {
         if !are_nodes(nodes, firsts[k], seconds[k]) {
-            return Check::Refused(BAD_NODE, k);
+            return Check::Refused(Check::BAD_NODE, k);
         }
         k += 1;
     }
@@ -69,7 +66,7 @@ fn check_different(firsts: &[u32], seconds: &[u32], lengths: &[u32]) -> Check
     let mut k = 0;
     while k < lengths.len() {
         if firsts[k] == seconds[k] {
-            return Check::Refused(SELF_JOINED, k);
+            return Check::Refused(Check::SELF_JOINED, k);
         }
         k += 1;
     }
@@ -83,7 +80,7 @@ fn check_lengths(lengths: &[u32]) -> Check
     let mut k = 0;
     while k < lengths.len() {
         if !Network::is_length(lengths[k]) {
-            return Check::Refused(BAD_LENGTH, k);
+            return Check::Refused(Check::BAD_LENGTH, k);
         }
         k += 1;
     }
@@ -95,13 +92,13 @@ fn check_lone_node(nodes: u32, v: u32) -> Check
     ensures { λ r. ⌜ r ≡ loneNodeCheck (withNodes nodes) v ⌝ }
 {
     if !names_one(nodes as u64, v) {
-        return Check::Refused(BAD_NODE, 0);
+        return Check::Refused(Check::BAD_NODE, 0);
     }
     Check::Accepted
 }
 
 // 7 for two lone nodes.
-pub fn check_lone_nodes(nodes: u32, u: u32, v: u32) -> Check
+pub(crate) fn check_lone_nodes(nodes: u32, u: u32, v: u32) -> Check
     ensures { λ r. ⌜ r ≡ orElse (loneNodeCheck (withNodes nodes) u) (loneNodeCheck (withNodes nodes) v) ⌝ }
 {
     let first = check_lone_node(nodes, u);
@@ -112,7 +109,7 @@ pub fn check_lone_nodes(nodes: u32, u: u32, v: u32) -> Check
 }
 
 // 6 to 9; lone is what the check of lone nodes said.
-pub fn check_values(
+pub(crate) fn check_values(
     lone: Check,
     nodes: u32,
     firsts: &[u32],

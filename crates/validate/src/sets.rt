@@ -8,8 +8,6 @@ ghost use Rattle.model.specs.Refusal.{orElse};
 ghost use Rattle.validate.specs.Part.{withLengths};
 ghost use Rattle.model.specs.Checks.{setLists, setsCheck, eventValues, equalSetsCheck};
 use crate::events::check_events;
-use crate::number::BAD_SET;
-use crate::number::UNEQUAL_SETS;
 use crate::number::same_length;
 use model::Check;
 use model::EventSet;
@@ -18,7 +16,7 @@ use model::EventSet;
 const SETS: usize = EventSet::MAX_SET as usize + 1;
 
 // 2 for events with set numbers.
-pub fn check_lists(sets: &[u32], edges: &[u32], offsets: &[u32]) -> Check
+pub(crate) fn check_lists(sets: &[u32], edges: &[u32], offsets: &[u32]) -> Check
     ensures { λ r. ⌜ r ≡ setLists (now (sets .entry)) (now (edges .entry)) (now (offsets .entry)) ⌝ }
 {
     let numbered = same_length(sets, edges);
@@ -35,7 +33,7 @@ fn check_set_numbers(sets: &[u32]) -> Check
     let mut k = 0;
     while k < sets.len() {
         if !EventSet::is_set(sets[k]) {
-            return Check::Refused(BAD_SET, k);
+            return Check::Refused(Check::BAD_SET, k);
         }
         k += 1;
     }
@@ -82,7 +80,7 @@ fn check_equal_sets(sets: &[u32]) -> Check
     let mut s = 1;
     while s <= greatest {
         if sizes[s] != sizes[0] {
-            return Check::Refused(UNEQUAL_SETS, s);
+            return Check::Refused(Check::UNEQUAL_SETS, s);
         }
         s += 1;
     }
@@ -90,7 +88,7 @@ fn check_equal_sets(sets: &[u32]) -> Check
 }
 
 // 12, 13 to 15 and 16: events with set numbers.
-pub fn check_values(lengths: &[u32], sets: &[u32], edges: &[u32], offsets: &[u32]) -> Check
+pub(crate) fn check_values(lengths: &[u32], sets: &[u32], edges: &[u32], offsets: &[u32]) -> Check
     requires { ⌜ length (now edges) ≡ length (now offsets) ⌝ }
     ensures { λ r. ⌜ r ≡ orElse (setsCheck (now (sets .entry))) (orElse (eventValues (withLengths (now (lengths .entry))) (now (edges .entry)) (now (offsets .entry))) (equalSetsCheck (now (sets .entry)))) ⌝ }
 {

@@ -6,7 +6,8 @@ use Rattle.model.specs.declared.check.Check.the-variants.{Accepted}
 use Rattle.distance.specs.Answers.{rowCheck}
 use Rattle.distance.proofs.Entries.{row-length}
 use Rattle.distance.proofs.Rooms.{askable}
-use Rattle.distance.proofs.Verdicts.{row-accepted, written-refused, written-accepted}
+use Rattle.distance.proofs.Verdicts.{row-accepted}
+use Rattle.model.proofs.Laws.Answer.{written-refused, written-accepted}
 use borrow.Author.Needs.{needs}
 use Rattle.distance.proofs.row.distances_from.Statement.{statement}
 use Rattle.distance.proofs.row.distances_from.Tie as tie

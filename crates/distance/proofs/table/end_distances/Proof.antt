@@ -1,7 +1,7 @@
 -- `end_distances`: the verdict is the check's; on acceptance the rows stand in front of the table.
 use mathlib.Core.Path.{_∙_, sym}
 use Rattle.distance.proofs.Tables.{table-accepted, table-answered}
-use Rattle.distance.proofs.Verdicts.{written-refused}
+use Rattle.model.proofs.Laws.Answer.{written-refused}
 use borrow.Author.Needs.{needs}
 use Rattle.distance.proofs.table.end_distances.Statement.{statement}
 use Rattle.distance.proofs.table.end_distances.Tie as tie

@@ -30,8 +30,8 @@ returns c =
     let e = sym (c .before .before .check-layout .ensures) ∙ c .enum-told .given .1 in
     record {
       verdict = c .before .before .check-layout .ensures;
-      edges-after = written-refused _ _ _ _ e;
-      offsets-after = written-refused _ _ _ _ e;
+      edges-after = written-refused _ _ e;
+      offsets-after = written-refused _ _ e;
     }
 
 enum-told-2 : tie.Need-enum-told-2

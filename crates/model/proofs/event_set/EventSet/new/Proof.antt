@@ -1,5 +1,7 @@
 use borrow.Author.Tests.{lt-leb, le-leb}
-use Rattle.model.specs.Made.{eventSetOf}
+use Rattle.model.specs.Checks.{eventsCheck}
+use Rattle.model.specs.Made.{eventSetOf, madeBy}
+use Rattle.model.specs.Refusal.{unless}
 use borrow.Author.Needs.{needs}
 use Rattle.model.proofs.event_set.EventSet.new.Statement.{statement}
 use Rattle.model.proofs.event_set.EventSet.new.Tie as tie
@@ -8,12 +10,12 @@ use Rattle.model.proofs.event_set.EventSet.new.Lts as lts
 
 -- src/event_set.rt:27:13
 returns : tie.Need-returns
-unfolding eventSetOf
+unfolding eventSetOf madeBy eventsCheck unless
 returns c = simp (le-leb _ _ (c .if1 .taken))
 
 -- src/event_set.rt:23:5
 returns-2 : tie.Need-returns-2
-unfolding eventSetOf
+unfolding eventSetOf madeBy eventsCheck unless
 returns-2 c = simp (lt-leb _ _ (c .if1 .left))
 
 pub new-spec : {M : Type 1} → statement M

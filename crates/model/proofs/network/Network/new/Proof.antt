@@ -2,7 +2,9 @@ use mathlib.Core.Path.{_∙_, sym}
 use mathlib.Core.Bool.{_&&_, and-false}
 use borrow.Author.Needs.{needs}
 use borrow.Author.Tests.{not-true, not-false}
-use Rattle.model.specs.Made.{networkOf}
+use Rattle.model.specs.Checks.{sizesCheck}
+use Rattle.model.specs.Made.{networkOf, madeBy}
+use Rattle.model.specs.Refusal.{unless}
 use Rattle.model.proofs.network.Network.new.Statement.{statement}
 use Rattle.model.proofs.network.Network.new.Tie as tie
 use Rattle.model.proofs.network.Network.new.Reads as reads
@@ -19,7 +21,7 @@ is-between-requires c κs = search needs
 
 -- src/network.rt:29:13
 returns : tie.Need-returns
-unfolding networkOf
+unfolding networkOf madeBy sizesCheck unless
 returns c = simp (sym (c .before .is-between .ensures) ∙ not-true _ (c .if1 .taken))
 
 -- src/network.rt:31:13
@@ -28,12 +30,12 @@ is-between-requires-2 c κs = search needs
 
 -- src/network.rt:32:13
 returns-2 : tie.Need-returns-2
-unfolding networkOf
+unfolding networkOf madeBy sizesCheck unless
 returns-2 c = simp (sym (c .before .is-between2 .ensures) ∙ not-true _ (c .if2 .taken), and-false)
 
 -- src/network.rt:25:5
 returns-3 : tie.Need-returns-3
-unfolding networkOf
+unfolding networkOf madeBy sizesCheck unless
 returns-3 c =
     simp (
       sym (c .before .before .before .is-between .ensures) ∙ not-false _ (c .before .before .if1 .left),

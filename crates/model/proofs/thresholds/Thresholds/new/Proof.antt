@@ -1,6 +1,8 @@
 use borrow.Author.Needs.{needs}
 use borrow.Author.Tests.{lt-leb, le-leb}
-use Rattle.model.specs.Made.{thresholdsOf}
+use Rattle.model.specs.Checks.{thresholdCountCheck}
+use Rattle.model.specs.Made.{thresholdsOf, madeBy}
+use Rattle.model.specs.Refusal.{orElse, unless}
 use Rattle.model.proofs.thresholds.Thresholds.new.Statement.{statement}
 use Rattle.model.proofs.thresholds.Thresholds.new.Tie as tie
 use Rattle.model.proofs.thresholds.Thresholds.new.Reads as reads
@@ -8,17 +10,17 @@ use Rattle.model.proofs.thresholds.Thresholds.new.Lts as lts
 
 -- src/thresholds.rt:22:13
 returns : tie.Need-returns
-unfolding thresholdsOf
+unfolding thresholdsOf madeBy thresholdCountCheck orElse unless
 returns c = simp (lt-leb _ _ (c .if1 .taken))
 
 -- src/thresholds.rt:25:13
 returns-2 : tie.Need-returns-2
-unfolding thresholdsOf
+unfolding thresholdsOf madeBy thresholdCountCheck orElse unless
 returns-2 c = simp (le-leb _ _ (c .before .if1 .left), lt-leb _ _ (c .if2 .taken))
 
 -- src/thresholds.rt:18:5
 returns-3 : tie.Need-returns-3
-unfolding thresholdsOf
+unfolding thresholdsOf madeBy thresholdCountCheck orElse unless
 returns-3 c = simp (le-leb _ _ (c .before .if1 .left), le-leb _ _ (c .if2 .left))
 
 pub new-spec : {M : Type 1} → statement M
