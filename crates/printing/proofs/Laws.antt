@@ -1,0 +1,8 @@
+-- Laws of digits, of the sizes of lines, and of bytes that are put one behind the other.
+pub mod Chains
+pub mod Digits
+pub mod Reading
+pub mod Rows
+pub mod Sizes
+pub mod Verdict
+pub mod Writing

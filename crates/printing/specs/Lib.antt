@@ -1,0 +1,4 @@
+-- The bytes that are printed.
+pub mod Bytes
+pub mod Answers
+pub mod Writing
