@@ -9,7 +9,8 @@ use Rattle.model.specs.Answer.{written}
 use Rattle.model.specs.Refusal.{orElse, listsDiffer}
 use Rattle.model.specs.declared.check.Check.{Check}
 use Rattle.model.specs.declared.check.Check.the-variants.{Accepted, Refused}
-use Rattle.readers.specs.Answers.{roomCheck, listAnswer}
+use Rattle.model.specs.Checks.{roomCheck}
+use Rattle.readers.specs.Answers.{listAnswer}
 use Rattle.readers.specs.Steps.{roomsCheck, Answered, AnsweredThree}
 use Rattle.readers.specs.declared.answers.ReadList.{ReadList}
 use Rattle.readers.specs.declared.answers.ReadList.the-variants as list-answer

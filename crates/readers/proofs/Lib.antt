@@ -1,9 +1,14 @@
 -- Lemmas for the proofs of this crate's functions.
+pub mod And
 pub mod Answering
+pub mod ArcLines
+pub mod ArcSteps
+pub mod BothWays
 pub mod EventRows
 pub mod Filled
 pub mod Headed
 pub mod Laws
+pub mod NetworkRows
 pub mod Parallel
 pub mod Progress
 pub mod Require
@@ -11,4 +16,5 @@ pub mod RowSteps
 pub mod ThresholdRows
 pub mod ThresholdSteps
 pub mod WholeEvents
+pub mod WholeNetwork
 pub mod WholeThresholds

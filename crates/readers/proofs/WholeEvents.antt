@@ -19,7 +19,8 @@ use Rattle.text.specs.Reading.{Outcome, read, refusedAt, readLines, lengthCheck
 use Rattle.text.specs.declared.fields.Numbers.{Numbers}
 use Rattle.text.specs.declared.fields.Numbers.the-variants.{Nothing, One, Two, Three}
 use Rattle.validate.specs.Part.{withLengths}
-use Rattle.readers.specs.Answers.{checkOf, roomCheck, listIn, listAnswer, textRows, eventTextCheck, EventsRead}
+use Rattle.model.specs.Checks.{roomCheck}
+use Rattle.readers.specs.Answers.{checkOf, listIn, listAnswer, textRows, eventTextCheck, EventsRead}
 use Rattle.readers.specs.EventSteps.{row, rowsIn, allRows, EventsTaken, rowsCheck, RowsAnswered}
 use Rattle.readers.specs.Parallel.{beside, Level}
 use Rattle.readers.specs.Steps.{entries, roomsCheck, AnsweredThree}

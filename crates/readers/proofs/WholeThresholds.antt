@@ -16,7 +16,8 @@ use Rattle.model.specs.declared.check.Check.the-variants.{Accepted, Refused}
 use Rattle.text.specs.Lines.{csvLines}
 use Rattle.text.specs.Reading.{Outcome, read, refusedAt, lengthCheck}
 use Rattle.text.specs.ThresholdText.{thresholdLines}
-use Rattle.readers.specs.Answers.{checkOf, roomCheck, listIn, listAnswer, textThresholds, thresholdTextCheck, ThresholdsRead}
+use Rattle.model.specs.Checks.{roomCheck}
+use Rattle.readers.specs.Answers.{checkOf, listIn, listAnswer, textThresholds, thresholdTextCheck, ThresholdsRead}
 use Rattle.readers.specs.Steps.{thresholdsIn, entries, Answered, ThresholdsTaken}
 use Rattle.readers.specs.declared.answers.ReadList.{ReadList}
 use Rattle.readers.specs.declared.answers.ReadList.the-variants as list-answer

@@ -4,12 +4,11 @@ use mathlib.Core.Bool.{cond}
 use mathlib.Core.List.{List, [], map}
 use mathlib.Core.Path.{_≡_}
 use Prim.Native.Nat.{ℕ}
-use lib.Dec.{leb}
 use lib.ListN.{length}
 use Rattle.model.specs.Answer.{written}
-use Rattle.model.specs.Checks.{networkCheck, equalSetsCheck}
+use Rattle.model.specs.Checks.{networkCheck, equalSetsCheck, roomCheck}
 use Rattle.model.specs.Network.{Network, network, edges}
-use Rattle.model.specs.Refusal.{orElse, unless, listsDiffer}
+use Rattle.model.specs.Refusal.{orElse}
 use Rattle.model.specs.declared.check.Check.{Check}
 use Rattle.model.specs.declared.check.Check.the-variants.{Accepted, Refused}
 use Rattle.text.specs.Lines.{feedLines, csvLines}
@@ -26,10 +25,6 @@ use Rattle.readers.specs.declared.answers.ReadList.the-variants as list-
 unfoldable pub checkOf : {State : Type 0} → Outcome State → Check
 checkOf (read s) = Accepted
 checkOf (refusedAt number place) = Refused number place
-
--- 2: an answer list is too short for so many entries
-unfoldable pub roomCheck : ℕ → List ℕ → Check
-roomCheck n answers = unless (leb n (length answers)) listsDiffer 0
 
 -- the network of a text that was read, an empty one otherwise
 unfoldable pub networkIn : Outcome NetworkState → Network

@@ -4,3 +4,4 @@ pub mod Header
 pub mod Parallel
 pub mod Steps
 pub mod EventSteps
+pub mod NetworkSteps

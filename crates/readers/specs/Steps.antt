@@ -10,7 +10,8 @@ use Rattle.model.specs.Answer.{written}
 use Rattle.text.specs.Lines.{csvLines}
 use Rattle.text.specs.Reading.{Step, taken, refused, Outcome, read, refusedAt, readLines}
 use Rattle.text.specs.ThresholdText.{ThresholdState, values, thresholdStep, thresholdEnd, thresholdLines}
-use Rattle.readers.specs.Answers.{roomCheck, listAnswer}
+use Rattle.model.specs.Checks.{roomCheck}
+use Rattle.readers.specs.Answers.{listAnswer}
 use Rattle.readers.specs.declared.answers.ReadList.{ReadList}
 use Rattle.readers.specs.declared.answers.ReadList.the-variants as list-answer
 use Rattle.readers.specs.declared.line.LineRead.{LineRead}

@@ -3,24 +3,23 @@ ghost use mathlib.Core.List.{_++_};
 ghost use mathlib.Core.Path.{_≡_};
 ghost use Prim.Native.Nat.{_≤_};
 ghost use lib.ListN.{length, drop};
-ghost use Rattle.readers.specs.Answers.{roomCheck};
+ghost use Rattle.model.specs.Checks.{roomCheck};
 ghost use Rattle.readers.specs.Steps.{roomsCheck, Answered, AnsweredThree};
 use crate::answers::ReadList;
-use crate::number::LISTS_DIFFER;
 use model::Check;
 
 // 2: the answer list is too short for so many entries.
-pub fn check_room(count: usize, answers: &[u32]) -> Check
+pub(crate) fn check_room(count: usize, answers: &[u32]) -> Check
     ensures { λ r. ⌜ r ≡ roomCheck count (now (answers .entry)) ⌝ }
 {
     if answers.len() < count {
-        return Check::Refused(LISTS_DIFFER, 0);
+        return Check::Refused(Check::LISTS_DIFFER, 0);
     }
     Check::Accepted
 }
 
 // The values come to the front of the answer list, the surplus entries stay.
-pub fn fill(values: &[u32], answers: &mut [u32])
+pub(crate) fn fill(values: &[u32], answers: &mut [u32])
     requires { ⌜ length (now values) ≤ length (now answers) ⌝ }
     ensures { λ r. ⌜ now (answers .exit) ≡ now (values .entry) ++ drop (length (now (values .entry))) (now (answers .entry)) ⌝ }
 {
@@ -32,7 +31,7 @@ pub fn fill(values: &[u32], answers: &mut [u32])
 }
 
 // 2 for one answer list, or the list filled.
-pub fn answer(values: &[u32], answers: &mut [u32]) -> ReadList
+pub(crate) fn answer(values: &[u32], answers: &mut [u32]) -> ReadList
     ensures { λ r. ⌜ Answered (now (values .entry)) (now (answers .entry)) r (now (answers .exit)) ⌝ }
 {
     if let Check::Refused(number, place) = check_room(values.len(), answers) {
@@ -58,7 +57,7 @@ fn check_rooms(count: usize, first: &[u32], second: &[u32], third: &[u32]) -> Ch
 }
 
 // 2 for three answer lists, or the lists filled.
-pub fn answer_three(
+pub(crate) fn answer_three(
     xs: &[u32],
     ys: &[u32],
     zs: &[u32],

@@ -18,12 +18,6 @@ use crate::header::Header;
 use crate::header::read_header;
 use crate::length::check_length;
 use crate::line::LineRead;
-use crate::number::BAD_SET;
-use crate::number::BEYOND_EDGE;
-use crate::number::NO_EDGE;
-use crate::number::NO_FORM;
-use crate::number::NO_HEADER;
-use crate::number::TOO_MANY_EVENTS;
 use model::Check;
 use model::EventSet;
 use text::Numbers;
@@ -33,16 +27,16 @@ fn check_row(lengths: &[u32], count: usize, set: u32, edge: u32, offset: u32) ->
     ensures { λ r. ⌜ RowChecked (now (lengths .entry)) count (row set edge offset) r ⌝ }
 {
     if !EventSet::is_set(set) {
-        return LineRead::Refused(BAD_SET);
+        return LineRead::Refused(Check::BAD_SET);
     }
     if !model::is_between(1, lengths.len() as u64, edge as u64) {
-        return LineRead::Refused(NO_EDGE);
+        return LineRead::Refused(Check::NO_EDGE);
     }
     if lengths[edge as usize - 1] < offset {
-        return LineRead::Refused(BEYOND_EDGE);
+        return LineRead::Refused(Check::BEYOND_EDGE);
     }
     if EventSet::MAX_EVENTS <= count {
-        return LineRead::Refused(TOO_MANY_EVENTS);
+        return LineRead::Refused(Check::TOO_MANY_EVENTS);
     }
     LineRead::Taken
 }
@@ -86,9 +80,9 @@ fn take_numbers(
         Numbers::Three(set, edge, offset) => {
             take_row(lengths, set, edge, offset, count, sets, edges, offsets)
         }
-        Numbers::Nothing => LineRead::Refused(NO_FORM),
-        Numbers::One(_) => LineRead::Refused(NO_FORM),
-        Numbers::Two(_, _) => LineRead::Refused(NO_FORM),
+        Numbers::Nothing => LineRead::Refused(Check::NO_FORM),
+        Numbers::One(_) => LineRead::Refused(Check::NO_FORM),
+        Numbers::Two(_, _) => LineRead::Refused(Check::NO_FORM),
     }
 }
 
@@ -159,7 +153,7 @@ fn take_text(
     ensures { λ r. ⌜ EventsTaken (now (lengths .entry)) (now (text .entry)) r (now (sets .exit)) (now (edges .exit)) (now (offsets .exit)) ⌝ }
 {
     match read_header(b"set,leg,offset", text) {
-        Header::Missing => ReadList::Refused(NO_HEADER, 1),
+        Header::Missing => ReadList::Refused(Check::NO_HEADER, 1),
         Header::RowsFrom(start) => take_rows(lengths, &text[start..], sets, edges, offsets),
     }
 }
@@ -209,7 +203,7 @@ fn answer_rows(
 }
 
 // A whole text, by way of lists that have room for every text's rows: nothing is answered before all is read.
-pub fn read_through(
+pub(crate) fn read_through(
     text: &[u8],
     nodes: u32,
     firsts: &[u32],

@@ -8,7 +8,7 @@ pub enum Header {
 }
 
 // 4: the first line is the header.
-pub fn read_header(header: &[u8], text: &[u8]) -> Header
+pub(crate) fn read_header(header: &[u8], text: &[u8]) -> Header
     ensures { λ r. ⌜ HeaderRead (now (header .entry)) (now (text .entry)) r ⌝ }
 {
     if text.len() == 0 {

@@ -1,18 +1,20 @@
 // Readers of the three texts.
 mod answer_list;
 mod answers;
+mod arcs;
 mod events;
 mod header;
 mod length;
 mod line;
-mod number;
+mod network;
 mod thresholds;
 
 pub use answers::ReadList;
 pub use answers::ReadNetwork;
-ghost use Rattle.readers.specs.Answers.{ThresholdsRead, EventsRead};
+ghost use Rattle.readers.specs.Answers.{ThresholdsRead, NetworkRead, EventsRead};
 ghost use Rattle.model.specs.Network.{network};
 use model::EventSet;
+use model::Network;
 use model::Thresholds;
 
 // A threshold text.
@@ -21,6 +23,21 @@ pub fn read_thresholds(text: &[u8], thresholds: &mut [u32]) -> ReadList
 {
     let mut list = [0u32; Thresholds::MAX_THRESHOLDS];
     thresholds::read_through(text, &mut list, thresholds)
+}
+
+// A network text.
+pub fn read_network(
+    text: &[u8],
+    firsts: &mut [u32],
+    seconds: &mut [u32],
+    lengths: &mut [u32],
+) -> ReadNetwork
+    ensures { λ r. ⌜ NetworkRead (now (text .entry)) (now (firsts .entry)) (now (seconds .entry)) (now (lengths .entry)) r (now (firsts .exit)) (now (seconds .exit)) (now (lengths .exit)) ⌝ }
+{
+    let mut xs = [0u32; Network::MAX_EDGES];
+    let mut ys = [0u32; Network::MAX_EDGES];
+    let mut zs = [0u32; Network::MAX_EDGES];
+    network::read_through(text, &mut xs, &mut ys, &mut zs, firsts, seconds, lengths)
 }
 
 // A report text over a lent network.

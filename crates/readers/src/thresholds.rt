@@ -12,10 +12,6 @@ use crate::header::Header;
 use crate::header::read_header;
 use crate::length::check_length;
 use crate::line::LineRead;
-use crate::number::BAD_THRESHOLDS;
-use crate::number::NO_FORM;
-use crate::number::NO_HEADER;
-use crate::number::NOT_RISING;
 use model::Check;
 use model::Thresholds;
 use text::Numbers;
@@ -37,10 +33,10 @@ fn take_threshold(t: u32, count: usize, list: &mut [u32]) -> LineRead
     ensures { λ r. ⌜ takeThreshold (take count (now (list .entry))) t ≡ thresholdsAfter r count (now (list .exit)) ⌝ }
 {
     if Thresholds::MAX_THRESHOLDS <= count {
-        return LineRead::Refused(BAD_THRESHOLDS);
+        return LineRead::Refused(Check::BAD_THRESHOLDS);
     }
     if !is_above(list, count, t) {
-        return LineRead::Refused(NOT_RISING);
+        return LineRead::Refused(Check::NOT_RISING);
     }
     list[count] = t;
     LineRead::Taken
@@ -53,9 +49,9 @@ fn take_number(numbers: Numbers, count: usize, list: &mut [u32]) -> LineRead
 {
     match numbers {
         Numbers::One(t) => take_threshold(t, count, list),
-        Numbers::Nothing => LineRead::Refused(NO_FORM),
-        Numbers::Two(_, _) => LineRead::Refused(NO_FORM),
-        Numbers::Three(_, _, _) => LineRead::Refused(NO_FORM),
+        Numbers::Nothing => LineRead::Refused(Check::NO_FORM),
+        Numbers::Two(_, _) => LineRead::Refused(Check::NO_FORM),
+        Numbers::Three(_, _, _) => LineRead::Refused(Check::NO_FORM),
     }
 }
 
@@ -85,7 +81,7 @@ fn take_rows(rows: &[u8], list: &mut [u32]) -> ReadList
         count += 1;
     }
     if count == 0 {
-        return ReadList::Refused(BAD_THRESHOLDS, count + 2);
+        return ReadList::Refused(Check::BAD_THRESHOLDS, count + 2);
     }
     ReadList::Read(count)
 }
@@ -96,13 +92,13 @@ fn take_text(text: &[u8], list: &mut [u32]) -> ReadList
     ensures { λ r. ⌜ ThresholdsTaken (now (text .entry)) r (now (list .exit)) ⌝ }
 {
     match read_header(b"threshold", text) {
-        Header::Missing => ReadList::Refused(NO_HEADER, 1),
+        Header::Missing => ReadList::Refused(Check::NO_HEADER, 1),
         Header::RowsFrom(start) => take_rows(&text[start..], list),
     }
 }
 
 // A whole text, by way of a list that has room for every text's thresholds: nothing is answered before all is read.
-pub fn read_through(text: &[u8], list: &mut [u32], answers: &mut [u32]) -> ReadList
+pub(crate) fn read_through(text: &[u8], list: &mut [u32], answers: &mut [u32]) -> ReadList
     requires { ⌜ maxThresholds ≤ length (now list) ⌝ }
     ensures { λ r. ⌜ ThresholdsRead (now (text .entry)) (now (answers .entry)) r (now (answers .exit)) ⌝ }
 {

@@ -6,7 +6,7 @@ use Prim.Native.Nat.{ℕ, suc, pred, _≤_, _<_}
 use native.Mathlib.Omega.{arith}
 use borrow.Author.Tests.{le-leb}
 use lib.Dec.{leb}
-use lib.ListN.{length, getD, length-append, length-map, List·getD-map}
+use lib.ListN.{length, getD, length-append, length-map}
 use Rattle.model.proofs.Laws.Refusal.{both-accepted, or-else-next, below-good, unless-accepts}
 use Rattle.model.proofs.Laws.CheckParts.{same-length-accepts}
 use Rattle.model.specs.Checks.{networkCheck, networkLists, networkValues, setLists, eventLists, setsCheck, edgesCheck, offsetsCheck, eventsCheck, eventValues, equalSetsCheck, setsOverNetworkCheck}
@@ -15,10 +15,13 @@ use Rattle.model.specs.Network.{Network, edges, size}
 use Rattle.model.specs.Refusal.{orElse, isBetween, badSet, noEdge, beyondEdge, tooManyEvents}
 use Rattle.model.specs.declared.check.Check.the-variants.{Accepted}
 use Rattle.text.specs.EventText.{Row, EventState, before-header, rows, eventStep, eventEnd, eventLines}
-use Rattle.text.specs.Reading.{Step, taken, Outcome, read, refusedAt, readLines, require, noHeader}
+use Rattle.text.specs.Reading.{Step, taken, Outcome, read, refusedAt, readLines, require, noHeader, lengthCheck}
+use Rattle.text.specs.Lines.{csvLines}
+use Rattle.readers.specs.Answers.{checkOf, textRows, eventTextCheck}
 use Rattle.readers.specs.EventSteps.{row}
 use Rattle.readers.proofs.EventRows.{line-taken}
-use Rattle.readers.proofs.Laws.Kept.{all-kept, each-snoc}
+use Rattle.readers.proofs.Laws.Answers.{list-read}
+use Rattle.readers.proofs.Laws.Kept.{all-kept, each-snoc, at-index}
 use Rattle.readers.proofs.Require.{passed}
 use Rattle.readers.proofs.RowSteps.{RowGood}
 
@@ -65,26 +68,22 @@ read-good net lines all e = by (readLines (eventStep net) 1 before-header lines)
 
 -- The checks of lists, of the rows' three lists.
 module _ (net : Network) (all : List Row) (g : RowsGood net all) where
-  -- what stands at an index of one of the lists
-  at-index : (f : Row → ℕ) → f (row 0 0 0) ≡ 0 → (k : ℕ) → getD (map f all) k 0 ≡ f (getD all k (row 0 0 0))
-  at-index f none k = ap (getD (map f all) k) (sym none) ∙ List·getD-map f all k (row 0 0 0)
-
   -- 12
   sets-pass : setsCheck (map (λ r. r .set) all) ≡ Accepted
   unfolding setsCheck
-  sets-pass = below-good badSet _ _ (λ k h. rw (at-index (λ r. r .set) refl k) (g .each k (omega (arith, length-map all (λ (r : Row). r .set))) .set-good))
+  sets-pass = below-good badSet _ _ (λ k h. rw (at-index (λ r. r .set) (row 0 0 0) all refl k) (g .each k (omega (arith, length-map all (λ (r : Row). r .set))) .set-good))
 
   -- 13
   edges-pass : edgesCheck net (map (λ r. r .edge) all) ≡ Accepted
   unfolding edgesCheck
-  edges-pass = below-good noEdge _ _ (λ k h. rw (at-index (λ r. r .edge) refl k) (g .each k (omega (arith, length-map all (λ (r : Row). r .edge))) .edge-good))
+  edges-pass = below-good noEdge _ _ (λ k h. rw (at-index (λ r. r .edge) (row 0 0 0) all refl k) (g .each k (omega (arith, length-map all (λ (r : Row). r .edge))) .edge-good))
 
   -- 14
   offsets-pass : offsetsCheck net (map (λ r. r .edge) all) (map (λ r. r .offset) all) ≡ Accepted
   unfolding offsetsCheck
   offsets-pass =
       below-good beyondEdge _ _
-      (λ k h. rw (at-index (λ r. r .offset) refl k, at-index (λ r. r .edge) refl k) (g .each k (omega (arith, length-map all (λ (r : Row). r .edge))) .offset-good))
+      (λ k h. rw (at-index (λ r. r .offset) (row 0 0 0) all refl k, at-index (λ r. r .edge) (row 0 0 0) all refl k) (g .each k (omega (arith, length-map all (λ (r : Row). r .edge))) .offset-good))
 
   -- 15
   count-passes : eventsCheck (length (map (λ r. r .edge) all)) ≡ Accepted
@@ -106,3 +105,15 @@ module _ (net : Network) (all : List Row) (g : RowsGood net all) where
       let both = both-accepted (networkLists net) (networkValues Accepted net) e in
       or-else-next _ (both .0) ∙ or-else-next _ lists-pass ∙ or-else-next _ (both .1) ∙ or-else-next _ sets-pass
       ∙ or-else-next _ (or-else-next _ edges-pass ∙ or-else-next _ offsets-pass ∙ count-passes)
+
+-- The rows of a text that is accepted pass the check of all sets over the network.
+module _ (net : Network) (bytes sets edges offsets : List ℕ) where
+  pub events-pass : eventTextCheck net bytes sets edges offsets ≡ Accepted → setsOverNetworkCheck net (map (λ r. r .set) (textRows net bytes)) (map (λ r. r .edge) (textRows net bytes)) (map (λ r. r .offset) (textRows net bytes)) ≡ Accepted
+  unfolding eventTextCheck textRows
+  events-pass e =
+      let one = both-accepted (lengthCheck bytes) _ e .1 in
+      let two = both-accepted (networkCheck net) _ one in
+      let three = both-accepted (checkOf (eventLines net (csvLines bytes))) _ (two .1) in
+      let four = both-accepted (equalSetsCheck (map (λ r. r .set) (textRows net bytes))) _ (three .1) in
+      sixteen-left net (textRows net bytes) (read-good net (csvLines bytes) (textRows net bytes) (list-read _ (three .0))) (two .0)
+      ∙ four .0

@@ -1,11 +1,11 @@
 -- What every line that is taken keeps holds of all that was read.
-use mathlib.Core.List.{List, [], _∷_, _++_}
+use mathlib.Core.List.{List, [], _∷_, _++_, map}
 use mathlib.Core.Logic.{⊎-elim}
 use mathlib.Core.Path.{_≡_, refl, sym, ap, subst, _∙_}
 use Prim.Native.Nat.{ℕ, suc, _≤_, _<_}
 use native.Mathlib.Nat.{eq-or-lt-of-le}
 use native.Mathlib.Omega.{arith}
-use lib.ListN.{length, getD, length-append, List·getD-append}
+use lib.ListN.{length, getD, length-append, List·getD-append, List·getD-map}
 use lib.Seq.{getD-append-seam}
 use Rattle.text.specs.Reading.{Step, taken, refused, Outcome, read, refusedAt, next, readLines}
 
@@ -28,3 +28,7 @@ each-snoc P d xs x each one k h =
     (λ e. subst P (sym (ap (λ (n : ℕ). getD (xs ++ (x ∷ [])) n d) e ∙ getD-append-seam xs x [] d)) one)
     (λ l. subst P (sym (List·getD-append xs (x ∷ []) d k l)) (each k l))
     (eq-or-lt-of-le up)
+
+-- what a part f of the records says at an index
+pub at-index : {A : Type 0} (f : A → ℕ) (d : A) (xs : List A) → f d ≡ 0 → (k : ℕ) → getD (map f xs) k 0 ≡ f (getD xs k d)
+at-index f d xs none k = ap (getD (map f xs) k) (sym none) ∙ List·getD-map f xs k d

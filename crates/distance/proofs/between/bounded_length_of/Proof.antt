@@ -5,18 +5,13 @@ use Rattle.distance.proofs.Answered.{beyond-answer, within-answer}
 use borrow.Author.Needs.{needs}
 use Rattle.distance.proofs.between.bounded_length_of.Statement.{statement}
 use Rattle.distance.proofs.between.bounded_length_of.Tie as tie
-use Rattle.distance.proofs.between.bounded_length_of.Reads as reads
-use Rattle.distance.proofs.between.bounded_length_of.Lts as lts
 
--- src/between.rt:34:9
 returns : tie.Need-returns
 returns c = λ d e. beyond-answer d (c .if1 .taken) e
 
--- src/between.rt:36:27
 sub-t3 : tie.Need-sub-t3
 sub-t3 c = search needs
 
--- src/between.rt:30:1
 returns-2 : tie.Need-returns-2
 returns-2 c = λ d e. within-answer (c .before .args .entry - 1) d (omega arith) e
 

@@ -6,38 +6,26 @@ use Rattle.distance.proofs.Answered.{bounded-refused, bounded-accepted}
 use borrow.Author.Needs.{needs}
 use Rattle.distance.proofs.between.bounded_node_distance.Statement.{statement}
 use Rattle.distance.proofs.between.bounded_node_distance.Tie as tie
-use Rattle.distance.proofs.between.bounded_node_distance.Reads as reads
-use Rattle.distance.proofs.between.bounded_node_distance.Lts as lts
-use Rattle.distance.proofs.between.bounded_length_of.Reads as bounded-length-of-reads
-use Rattle.distance.proofs.between.entry_between.Reads as entry-between-reads
-use Rattle.validate.proofs.check_nodes.Reads as check-nodes-reads
 
--- src/between.rt:105:11
 check-nodes-requires : tie.Need-check-nodes-requires
 check-nodes-requires c κs = search needs
 
--- src/between.rt:106:24
 enum-known-number : tie.Need-enum-known-number
 enum-known-number c = search needs
 
--- src/between.rt:108:31
 enum-told : tie.Need-enum-told
 enum-told c = search needs
 
--- src/between.rt:108:31
 entry-between-requires : tie.Need-entry-between-requires
 entry-between-requires c κs = sym (c .before .before .check-nodes .ensures) ∙ c .enum-told .given .1
 
--- src/between.rt:108:13
 bounded-length-of-requires : tie.Need-bounded-length-of-requires
 bounded-length-of-requires c κs = search needs
 
--- src/between.rt:94:1
 returns : tie.Need-returns
 unfolding boundedNodeAnswer
 returns c = bounded-refused _ (sym (c .before .before .before .check-nodes .ensures) ∙ c .before .number .given .1)
 
--- src/between.rt:94:1
 returns-2 : tie.Need-returns-2
 unfolding boundedNodeAnswer
 returns-2 c =

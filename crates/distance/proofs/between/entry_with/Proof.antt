@@ -2,27 +2,19 @@
 use borrow.Author.Needs.{needs}
 use Rattle.distance.proofs.between.entry_with.Statement.{statement}
 use Rattle.distance.proofs.between.entry_with.Tie as tie
-use Rattle.distance.proofs.between.entry_with.Reads as reads
-use Rattle.distance.proofs.between.entry_with.Lts as lts
-use Rattle.distance.proofs.find.find.Reads as find-reads
 
--- src/between.rt:54:5
 find-requires : tie.Need-find-requires
 find-requires c κs = search needs
 
--- src/between.rt:55:5
 mul-result : tie.Need-mul-result
 mul-result c = search needs
 
--- src/between.rt:55:5
 slice-read-result : tie.Need-slice-read-result
 slice-read-result c = search needs
 
--- src/between.rt:40:1
 same-length : tie.Need-same-length
 same-length c = search needs
 
--- src/between.rt:40:1
 returns : tie.Need-returns
 returns c = c .before .before .before .find .ensures .at (c .before .before .before .before .before .before .before .before .before .args .v)
 

@@ -4,39 +4,28 @@ use Rattle.distance.proofs.Rooms.{can-link, ready, asked}
 use borrow.Author.Needs.{needs}
 use Rattle.distance.proofs.find.find_with.Statement.{statement}
 use Rattle.distance.proofs.find.find_with.Tie as tie
-use Rattle.distance.proofs.find.find_with.Reads as reads
-use Rattle.distance.proofs.find.find_with.Lts as lts
-use Rattle.distance.proofs.arcs.link.Reads as link-reads
-use Rattle.distance.proofs.search.search.Reads as search-reads
 
--- src/find.rt:26:5
 link-requires : tie.Need-link-requires
 link-requires c κs = can-link (asked (c .before .before .before .before .before .before .before .before .before .pre .0)) (c .before .before .before .before .before .before .before .before .before .pre .1)
 
--- src/find.rt:27:5
 search-requires : tie.Need-search-requires
 search-requires c κs =
     let start = c .before .before .before .before .before .before .before .before .before .before .before .before .before .before .before .before .before .before in
     let n = asked (start .pre .0) in
     ready n (start .pre .0 .source-is) (start .pre .0 .room) (omega (arith, n .nodes-to, start .pre .1 .front-room)) (c .before .before .before .before .before .before .before .before .link .ensures)
 
--- src/find.rt:10:1
 same-length : tie.Need-same-length
 same-length c = search needs
 
--- src/find.rt:10:1
 same-length-2 : tie.Need-same-length-2
 same-length-2 c = search needs
 
--- src/find.rt:10:1
 same-length-3 : tie.Need-same-length-3
 same-length-3 c = search needs
 
--- src/find.rt:10:1
 same-length-4 : tie.Need-same-length-4
 same-length-4 c = search needs
 
--- src/find.rt:10:1
 returns : tie.Need-returns
 returns c = search needs
 

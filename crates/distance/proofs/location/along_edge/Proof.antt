@@ -4,30 +4,22 @@ use Rattle.distance.proofs.Routes.{other-edge, same-edge}
 use borrow.Author.Needs.{needs}
 use Rattle.distance.proofs.location.along_edge.Statement.{statement}
 use Rattle.distance.proofs.location.along_edge.Tie as tie
-use Rattle.distance.proofs.location.along_edge.Reads as reads
-use Rattle.distance.proofs.location.along_edge.Lts as lts
 
--- src/location.rt:49:9
 returns : tie.Need-returns
 returns c = other-edge _ _ _ _ (c .if1 .taken)
 
--- src/location.rt:51:16
 sub-result : tie.Need-sub-result
 sub-result c = search needs
 
--- src/location.rt:51:16
 add-result : tie.Need-add-result
 add-result c = search needs
 
--- src/location.rt:51:35
 add-result-2 : tie.Need-add-result-2
 add-result-2 c = search needs
 
--- src/location.rt:44:1
 returns-2 : tie.Need-returns-2
 returns-2 c = same-edge _ _ _ _ _ (c .before .if1 .left) (omega arith)
 
--- src/location.rt:44:1
 returns-3 : tie.Need-returns-3
 returns-3 c = same-edge _ _ _ _ _ (c .before .if1 .left) (omega arith)
 

@@ -5,85 +5,61 @@ use Rattle.distance.proofs.Routes.{at-edge, from-end-code}
 use borrow.Author.Needs.{needs}
 use Rattle.distance.proofs.location.from_end.Statement.{statement}
 use Rattle.distance.proofs.location.from_end.Tie as tie
-use Rattle.distance.proofs.location.from_end.Reads as reads
-use Rattle.distance.proofs.location.from_end.Lts as lts
-use Rattle.distance.proofs.find.find.Reads as find-reads
-use Rattle.distance.proofs.location.lesser.Reads as lesser-reads
-use Rattle.distance.proofs.location.with_gaps.Reads as with-gaps-reads
 
--- src/location.rt:70:5
 find-requires : tie.Need-find-requires
 find-requires c κs = search needs
 
--- src/location.rt:71:40
 mul-with-gaps : tie.Need-mul-with-gaps
 mul-with-gaps c = search needs
 
--- src/location.rt:71:40
 shared-slice-read-with-gaps : tie.Need-shared-slice-read-with-gaps
 shared-slice-read-with-gaps c = at-edge (c .before .before .before .before .before .before .before .before .before .pre .1 .1) .in-firsts
 
--- src/location.rt:71:40
 cast-with-gaps : tie.Need-cast-with-gaps
 cast-with-gaps c = omega (arith, at-edge (c .before .before .before .before .before .before .before .before .before .pre .1 .1))
 
--- src/location.rt:71:35
 mul-with-gaps-2 : tie.Need-mul-with-gaps-2
 mul-with-gaps-2 c = omega (arith, at-edge (c .before .before .before .before .before .before .before .before .before .pre .1 .1))
 
--- src/location.rt:71:35
 slice-read-with-gaps : tie.Need-slice-read-with-gaps
 slice-read-with-gaps c = omega (arith, at-edge (c .before .before .before .before .before .before .before .before .before .before .pre .1 .1), c .before .before .before .before .before .before .before .before .before .before .pre .0 .room, c .before .before .before .before .find .kept)
 
--- src/location.rt:71:9
 with-gaps-requires : tie.Need-with-gaps-requires
 with-gaps-requires c κs = (c .before .before .before .before .before .before .before .before .before .before .pre .1 .0, c .before .before .before .before .find .ensures .at _ .small, at-edge (c .before .before .before .before .before .before .before .before .before .before .pre .1 .1) .first-gap)
 
--- src/location.rt:72:41
 mul-with-gaps-3 : tie.Need-mul-with-gaps-3
 mul-with-gaps-3 c = search needs
 
--- src/location.rt:72:41
 shared-slice-read-with-gaps-2 : tie.Need-shared-slice-read-with-gaps-2
 shared-slice-read-with-gaps-2 c = at-edge (c .before .before .before .before .before .before .before .before .before .before .before .before .pre .1 .1) .in-seconds
 
--- src/location.rt:72:41
 cast-with-gaps-2 : tie.Need-cast-with-gaps-2
 cast-with-gaps-2 c = omega (arith, at-edge (c .before .before .before .before .before .before .before .before .before .before .before .before .pre .1 .1))
 
--- src/location.rt:72:36
 mul-with-gaps-4 : tie.Need-mul-with-gaps-4
 mul-with-gaps-4 c = omega (arith, at-edge (c .before .before .before .before .before .before .before .before .before .before .before .before .pre .1 .1))
 
--- src/location.rt:72:36
 slice-read-with-gaps-2 : tie.Need-slice-read-with-gaps-2
 slice-read-with-gaps-2 c = omega (arith, at-edge (c .before .before .before .before .before .before .before .before .before .before .before .before .before .pre .1 .1), c .before .before .before .before .before .before .before .before .before .before .before .before .before .pre .0 .room, c .before .before .before .before .before .before .before .find .kept)
 
--- src/location.rt:72:63
 mul-with-gaps-5 : tie.Need-mul-with-gaps-5
 mul-with-gaps-5 c = search needs
 
--- src/location.rt:72:63
 shared-slice-read-with-gaps-3 : tie.Need-shared-slice-read-with-gaps-3
 shared-slice-read-with-gaps-3 c = search needs
 
--- src/location.rt:72:63
 sub-with-gaps : tie.Need-sub-with-gaps
 sub-with-gaps c = search needs
 
--- src/location.rt:72:9
 with-gaps-requires-2 : tie.Need-with-gaps-requires-2
 with-gaps-requires-2 c κs = (c .before .before .before .before .before .before .before .before .before .before .before .before .before .before .pre .1 .0, c .before .before .before .before .before .before .before .before .find .ensures .at _ .small, at-edge (c .before .before .before .before .before .before .before .before .before .before .before .before .before .before .pre .1 .1) .second-gap)
 
--- src/location.rt:73:5
 lesser-requires : tie.Need-lesser-requires
 lesser-requires c κs = search needs
 
--- src/location.rt:55:1
 same-length : tie.Need-same-length
 same-length c = search needs
 
--- src/location.rt:55:1
 returns : tie.Need-returns
 unfolding route
 returns c =

@@ -3,22 +3,16 @@ use native.Mathlib.Omega.{arith}
 use Rattle.distance.proofs.Routes.{first-none, second-none, first-lesser, second-lesser}
 use Rattle.distance.proofs.location.lesser.Statement.{statement}
 use Rattle.distance.proofs.location.lesser.Tie as tie
-use Rattle.distance.proofs.location.lesser.Reads as reads
-use Rattle.distance.proofs.location.lesser.Lts as lts
 
--- src/location.rt:24:9
 returns : tie.Need-returns
 returns c = λ d e p q. first-none d e (c .if1 .taken) p q
 
--- src/location.rt:27:9
 returns-2 : tie.Need-returns-2
 returns-2 c = λ d e p q. second-none d e (c .if2 .taken) p q
 
--- src/location.rt:20:1
 returns-3 : tie.Need-returns-3
 returns-3 c = λ d e p q. first-lesser d e (c .before .before .if1 .left) (omega arith) p q
 
--- src/location.rt:20:1
 returns-4 : tie.Need-returns-4
 returns-4 c = λ d e p q. second-lesser d e (c .before .if2 .left) (omega arith) p q
 

@@ -8,48 +8,34 @@ use Rattle.distance.proofs.Routes.{on-edge, located}
 use borrow.Author.Needs.{needs}
 use Rattle.distance.proofs.location.location_distance.Statement.{statement}
 use Rattle.distance.proofs.location.location_distance.Tie as tie
-use Rattle.distance.proofs.location.location_distance.Reads as reads
-use Rattle.distance.proofs.location.location_distance.Lts as lts
-use Rattle.distance.proofs.between.length_of.Reads as length-of-reads
-use Rattle.distance.proofs.location.entry_of.Reads as entry-of-reads
-use Rattle.validate.proofs.check_locations.Reads as check-locations-reads
 
--- src/location.rt:127:11
 check-locations-requires : tie.Need-check-locations-requires
 check-locations-requires c κs = search needs
 
--- src/location.rt:128:24
 enum-known-number : tie.Need-enum-known-number
 enum-known-number c = search needs
 
--- src/location.rt:130:21
 enum-told : tie.Need-enum-told
 enum-told c = search needs
 
--- src/location.rt:130:21
 sub-i : tie.Need-sub-i
 sub-i c = locations-accepted _ _ _ _ _ (sym (c .before .before .check-locations .ensures) ∙ c .enum-told .given .1) .first-location .from-one
 
--- src/location.rt:131:21
 sub-j : tie.Need-sub-j
 sub-j c = locations-accepted _ _ _ _ _ (sym (c .before .before .check-locations .ensures) ∙ c .enum-told .given .1) .second-location .from-one
 
--- src/location.rt:132:23
 entry-of-requires : tie.Need-entry-of-requires
 entry-of-requires c κs =
     let a = locations-accepted _ _ _ _ _ (sym (c .before .before .check-locations .ensures) ∙ c .enum-told .given .1) in
     (on-edge _ _ (a .is-network) (a .first-location), on-edge _ _ (a .is-network) (a .second-location))
 
--- src/location.rt:132:13
 length-of-requires : tie.Need-length-of-requires
 length-of-requires c κs = search needs
 
--- src/location.rt:115:1
 returns : tie.Need-returns
 unfolding locationAnswer
 returns c = length-refused _ (sym (c .before .before .before .check-locations .ensures) ∙ c .before .number .given .1)
 
--- src/location.rt:115:1
 returns-2 : tie.Need-returns-2
 unfolding locationAnswer
 returns-2 c =

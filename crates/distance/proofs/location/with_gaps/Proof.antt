@@ -3,22 +3,16 @@ use Rattle.distance.proofs.Routes.{no-route, a-route}
 use borrow.Author.Needs.{needs}
 use Rattle.distance.proofs.location.with_gaps.Statement.{statement}
 use Rattle.distance.proofs.location.with_gaps.Tie as tie
-use Rattle.distance.proofs.location.with_gaps.Reads as reads
-use Rattle.distance.proofs.location.with_gaps.Lts as lts
 
--- src/location.rt:38:9
 returns : tie.Need-returns
 returns c = λ d e. no-route _ _ d (c .if1 .taken) e
 
--- src/location.rt:40:5
 add-result : tie.Need-add-result
 add-result c = search needs
 
--- src/location.rt:40:5
 add-result-2 : tie.Need-add-result-2
 add-result-2 c = search needs
 
--- src/location.rt:33:1
 returns-2 : tie.Need-returns-2
 returns-2 c = λ d e. a-route _ _ d (c .if1 .left) e
 

@@ -5,19 +5,13 @@ use Rattle.distance.proofs.Verdicts.{row-short, row-roomy}
 use borrow.Author.Needs.{needs}
 use Rattle.distance.proofs.row.check_row.Statement.{statement}
 use Rattle.distance.proofs.row.check_row.Tie as tie
-use Rattle.distance.proofs.row.check_row.Reads as reads
-use Rattle.distance.proofs.row.check_row.Lts as lts
-use Rattle.validate.proofs.check_nodes.Reads as check-nodes-reads
 
--- src/row.rt:26:9
 returns : tie.Need-returns
 returns c = row-short _ _ _ (omega arith)
 
--- src/row.rt:28:5
 check-nodes-requires : tie.Need-check-nodes-requires
 check-nodes-requires c κs = search needs
 
--- src/row.rt:15:1
 returns-2 : tie.Need-returns-2
 returns-2 c = c .check-nodes .ensures ∙ row-roomy _ _ _ (omega arith)
 

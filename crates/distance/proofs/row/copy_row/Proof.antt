@@ -10,8 +10,6 @@ use lib.Seq.{getD-drop}
 use Rattle.distance.proofs.Entries.{copy-more}
 use Rattle.distance.proofs.row.copy_row.Statement.{statement}
 use Rattle.distance.proofs.row.copy_row.Tie as tie
-use Rattle.distance.proofs.row.copy_row.Reads as reads
-use Rattle.distance.proofs.row.copy_row.Lts as lts
 
 abbrev Inv-loop : tie.InvT-loop
 Inv-loop nodes dist row₀ n k₀ row k =
@@ -20,39 +18,30 @@ Inv-loop nodes dist row₀ n k₀ row k =
 abbrev μ-loop : tie.MeasureT-loop
 μ-loop nodes dist row₀ n k₀ row k = n - k
 
--- src/row.rt:38:5
 loop-holds : tie.Need-loop-holds Inv-loop μ-loop
 loop-holds c = (search needs, refl, refl)
 
--- src/row.rt:39:23
 add-row : tie.Need-add-row Inv-loop μ-loop
 add-row c = search needs
 
--- src/row.rt:39:18
 mul-row : tie.Need-mul-row Inv-loop μ-loop
 mul-row c = search needs
 
--- src/row.rt:39:18
 shared-slice-read-row : tie.Need-shared-slice-read-row Inv-loop μ-loop
 shared-slice-read-row c = search needs
 
--- src/row.rt:39:9
 mul-row-2 : tie.Need-mul-row-2 Inv-loop μ-loop
 mul-row-2 c = search needs
 
--- src/row.rt:39:9
 slice-write-row : tie.Need-slice-write-row Inv-loop μ-loop
 slice-write-row c = search needs
 
--- src/row.rt:40:9
 add-k : tie.Need-add-k Inv-loop μ-loop
 add-k c = search needs
 
--- src/row.rt:38:5
 loop-less : tie.Need-loop-less Inv-loop μ-loop
 loop-less c = search needs
 
--- src/row.rt:38:5
 loop-again : tie.Need-loop-again Inv-loop μ-loop
 loop-again c =
     let here = c .before .before .loop in
@@ -64,11 +53,9 @@ loop-again c =
       rw next (copy-more (drop 1 dist) old (here .row) (here .k) (simp length-drop (omega arith)) (omega arith) (here .inv .2)),
     )
 
--- src/row.rt:32:1
 same-length : tie.Need-same-length Inv-loop μ-loop
 same-length c = search needs
 
--- src/row.rt:32:1
 returns : tie.Need-returns Inv-loop μ-loop
 returns c =
     let here = c .before .loop in

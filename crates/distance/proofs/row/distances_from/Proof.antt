@@ -11,24 +11,16 @@ use Rattle.model.proofs.Laws.Answer.{written-refused, written-accepted}
 use borrow.Author.Needs.{needs}
 use Rattle.distance.proofs.row.distances_from.Statement.{statement}
 use Rattle.distance.proofs.row.distances_from.Tie as tie
-use Rattle.distance.proofs.row.distances_from.Reads as reads
-use Rattle.distance.proofs.row.distances_from.Lts as lts
-use Rattle.distance.proofs.row.check_row.Reads as check-row-reads
-use Rattle.distance.proofs.row.write_row.Reads as write-row-reads
 
--- src/row.rt:76:9
 check-row-requires : tie.Need-check-row-requires
 check-row-requires c κs = search needs
 
--- src/row.rt:78:9
 enum-told : tie.Need-enum-told
 enum-told c = search needs
 
--- src/row.rt:78:9
 same-length : tie.Need-same-length
 same-length c = search needs
 
--- src/row.rt:78:9
 returns : tie.Need-returns
 returns c =
     let verdict = c .before .before .check-row .ensures in
@@ -41,21 +33,17 @@ enum-told-2 c = search needs
 accepted : (c : tie.After-enum-told2) → rowCheck (network (c .before .before .before .before .before .before .before .before .args .nodes) (c .before .before .before .before .before .before .before .before .args .firsts .now) (c .before .before .before .before .before .before .before .before .args .seconds .now) (c .before .before .before .before .before .before .before .before .args .lengths .now)) (c .before .before .before .before .before .before .before .before .args .source) (c .before .before .before .before .before .before .before .before .args .answers .now) ≡ Accepted
 accepted c = sym (c .before .before .check-row .ensures) ∙ c .enum-told2 .given .1
 
--- src/row.rt:81:63
 slice-aggregate-write-row : tie.Need-slice-aggregate-write-row
 slice-aggregate-write-row c = search needs
 
--- src/row.rt:81:5
 write-row-requires : tie.Need-write-row-requires
 write-row-requires c κs =
     let a = row-accepted _ _ _ (accepted (c .before .before)) in
     (askable (a .1 .is-network) (a .1 .first-node) (search needs), a .0)
 
--- src/row.rt:65:1
 same-length-2 : tie.Need-same-length-2
 same-length-2 c = search needs
 
--- src/row.rt:65:1
 returns-2 : tie.Need-returns-2
 returns-2 c =
     record {

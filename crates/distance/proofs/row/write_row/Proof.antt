@@ -8,28 +8,19 @@ use Rattle.distance.proofs.Entries.{searched-row}
 use borrow.Author.Needs.{needs}
 use Rattle.distance.proofs.row.write_row.Statement.{statement}
 use Rattle.distance.proofs.row.write_row.Tie as tie
-use Rattle.distance.proofs.row.write_row.Reads as reads
-use Rattle.distance.proofs.row.write_row.Lts as lts
-use Rattle.distance.proofs.find.find.Reads as find-reads
-use Rattle.distance.proofs.row.copy_row.Reads as copy-row-reads
 
--- src/row.rt:59:5
 find-requires : tie.Need-find-requires
 find-requires c κs = search needs
 
--- src/row.rt:60:5
 copy-row-requires : tie.Need-copy-row-requires
 copy-row-requires c κs = search needs
 
--- src/row.rt:45:1
 same-length : tie.Need-same-length
 same-length c = search needs
 
--- src/row.rt:45:1
 same-length-2 : tie.Need-same-length-2
 same-length-2 c = search needs
 
--- src/row.rt:45:1
 returns : tie.Need-returns
 returns c =
     let start = c .before .before .before .before .before .before .before .before .before .before .before .before .before .before in

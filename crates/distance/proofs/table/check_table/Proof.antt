@@ -5,27 +5,19 @@ use Rattle.distance.proofs.Tables.{square-small, wanted-differs, table-
 use borrow.Author.Needs.{needs}
 use Rattle.distance.proofs.table.check_table.Statement.{statement}
 use Rattle.distance.proofs.table.check_table.Tie as tie
-use Rattle.distance.proofs.table.check_table.Reads as reads
-use Rattle.distance.proofs.table.check_table.Lts as lts
-use Rattle.validate.proofs.check_network.Reads as check-network-reads
 
--- src/table.rt:32:9
 returns : tie.Need-returns
 returns c = wanted-differs _ _ _ (c .if1 .taken)
 
--- src/table.rt:34:30
 mul-if2 : tie.Need-mul-if2
 mul-if2 c = omega (arith, square-small {n = c .before .before .before .before .before .before .args .nodes} (omega arith))
 
--- src/table.rt:35:9
 returns-2 : tie.Need-returns-2
 returns-2 c = table-short _ _ _ (c .before .if1 .left) (omega arith)
 
--- src/table.rt:37:5
 check-network-requires : tie.Need-check-network-requires
 check-network-requires c κs = search needs
 
--- src/table.rt:21:1
 returns-3 : tie.Need-returns-3
 returns-3 c = c .check-network .ensures ∙ table-roomy _ _ _ (c .before .before .if1 .left) (omega arith)
 

@@ -5,24 +5,16 @@ use Rattle.model.proofs.Laws.Answer.{written-refused}
 use borrow.Author.Needs.{needs}
 use Rattle.distance.proofs.table.end_distances.Statement.{statement}
 use Rattle.distance.proofs.table.end_distances.Tie as tie
-use Rattle.distance.proofs.table.end_distances.Reads as reads
-use Rattle.distance.proofs.table.end_distances.Lts as lts
-use Rattle.distance.proofs.table.check_table.Reads as check-table-reads
-use Rattle.distance.proofs.table.fill.Reads as fill-reads
 
--- src/table.rt:149:9
 check-table-requires : tie.Need-check-table-requires
 check-table-requires c κs = search needs
 
--- src/table.rt:151:9
 enum-told : tie.Need-enum-told
 enum-told c = search needs
 
--- src/table.rt:151:9
 same-length : tie.Need-same-length
 same-length c = search needs
 
--- src/table.rt:151:9
 returns : tie.Need-returns
 returns c =
     let verdict = c .before .before .check-table .ensures in
@@ -31,15 +23,12 @@ returns c =
 enum-told-2 : tie.Need-enum-told-2
 enum-told-2 c = search needs
 
--- src/table.rt:153:5
 fill-requires : tie.Need-fill-requires
 fill-requires c κs = table-accepted _ _ _ (sym (c .before .before .before .check-table .ensures) ∙ c .before .enum-told2 .given .1)
 
--- src/table.rt:138:1
 same-length-2 : tie.Need-same-length-2
 same-length-2 c = search needs
 
--- src/table.rt:138:1
 returns-2 : tie.Need-returns-2
 returns-2 c = table-answered _ _ _ _ (c .before .before .before .before .before .before .check-table .ensures) (c .before .before .before .before .enum-told2 .given .1) (c .before .before .fill .ensures) (c .before .before .fill .kept .1 .1 .1 .1 .1 .1 .0)
 

@@ -5,36 +5,25 @@ use Rattle.distance.proofs.Tables.{row-stays, row-made}
 use borrow.Author.Needs.{needs}
 use Rattle.distance.proofs.table.fill_row.Statement.{statement}
 use Rattle.distance.proofs.table.fill_row.Tie as tie
-use Rattle.distance.proofs.table.fill_row.Reads as reads
-use Rattle.distance.proofs.table.fill_row.Lts as lts
-use Rattle.distance.proofs.row.copy_row.Reads as copy-row-reads
-use Rattle.distance.proofs.search.search.Reads as search-reads
 
--- src/table.rt:60:9
 returns : tie.Need-returns
 returns c = row-stays _ _ (c .if1 .taken)
 
--- src/table.rt:62:5
 search-requires : tie.Need-search-requires
 search-requires c κs = search needs
 
--- src/table.rt:63:5
 copy-row-requires : tie.Need-copy-row-requires
 copy-row-requires c κs = search needs
 
--- src/table.rt:41:1
 same-length : tie.Need-same-length
 same-length c = search needs
 
--- src/table.rt:41:1
 same-length-2 : tie.Need-same-length-2
 same-length-2 c = search needs
 
--- src/table.rt:41:1
 same-length-3 : tie.Need-same-length-3
 same-length-3 c = search needs
 
--- src/table.rt:41:1
 returns-2 : tie.Need-returns-2
 returns-2 c =
     let start = c .before .before .before .before .before .before .before .before .before .before .before .before .before .before .before .before .before .before .before .before .before in

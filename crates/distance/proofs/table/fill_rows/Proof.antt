@@ -11,9 +11,6 @@ use Rattle.distance.proofs.Rooms.{ready}
 use Rattle.distance.proofs.Tables.{Filled, fill-none, part-length, row-end, fill-part, fill-all}
 use Rattle.distance.proofs.table.fill_rows.Statement.{statement}
 use Rattle.distance.proofs.table.fill_rows.Tie as tie
-use Rattle.distance.proofs.table.fill_rows.Reads as reads
-use Rattle.distance.proofs.table.fill_rows.Lts as lts
-use Rattle.distance.proofs.table.fill_row.Reads as fill-row-reads
 
 abbrev Inv-loop : tie.InvT-loop
 Inv-loop nodes firsts seconds lengths last next bound wanted dist₀ front₀ rows₀ n at₀ k₀ dist front rows at k =
@@ -23,47 +20,36 @@ abbrev μ-loop : tie.MeasureT-loop
 μ-loop nodes firsts seconds lengths last next bound wanted dist₀ front₀ rows₀ n at₀ k₀ dist front rows at k =
     n - k
 
--- src/table.rt:87:5
 loop-holds : tie.Need-loop-holds Inv-loop μ-loop
 loop-holds c = (search needs, fill-none _ _ _ _, refl, refl)
 
--- src/table.rt:88:23
 add-source : tie.Need-add-source Inv-loop μ-loop
 add-source c = search needs
 
--- src/table.rt:88:22
 cast-source : tie.Need-cast-source Inv-loop μ-loop
 cast-source c = search needs
 
--- src/table.rt:89:78
 mul-fill-row : tie.Need-mul-fill-row Inv-loop μ-loop
 mul-fill-row c = search needs
 
--- src/table.rt:89:78
 shared-slice-read-fill-row : tie.Need-shared-slice-read-fill-row Inv-loop μ-loop
 shared-slice-read-fill-row c = search needs
 
--- src/table.rt:89:116
 add-fill-row : tie.Need-add-fill-row Inv-loop μ-loop
 add-fill-row c = omega (arith, row-end _ _ _ _ (c .before .before .before .before .loop .inv .1) (c .before .before .before .before .before .before .before .before .before .before .before .before .before .before .pre .0) (c .before .before .before .loop-test .taken))
 
--- src/table.rt:89:102
 mul-fill-row-2 : tie.Need-mul-fill-row-2 Inv-loop μ-loop
 mul-fill-row-2 c = omega (arith, row-end _ _ _ _ (c .before .before .before .before .loop .inv .1) (c .before .before .before .before .before .before .before .before .before .before .before .before .before .before .pre .0) (c .before .before .before .loop-test .taken))
 
--- src/table.rt:89:102
 sub-fill-row : tie.Need-sub-fill-row Inv-loop μ-loop
 sub-fill-row c = search needs
 
--- src/table.rt:89:102
 part-fill-row-start : tie.Need-part-fill-row-start Inv-loop μ-loop
 part-fill-row-start c = search needs
 
--- src/table.rt:89:102
 part-fill-row-end : tie.Need-part-fill-row-end Inv-loop μ-loop
 part-fill-row-end c = omega (arith, row-end _ _ _ _ (c .before .before .before .before .loop .inv .1) (c .before .before .before .before .before .before .before .before .before .before .before .before .before .before .pre .0) (c .before .before .before .loop-test .taken))
 
--- src/table.rt:89:9
 fill-row-requires : tie.Need-fill-row-requires Inv-loop μ-loop
 fill-row-requires c κs =
     let start = c .before .before .before .before .before .before .before .before .before .before .before .before .before .before .before in
@@ -73,19 +59,15 @@ fill-row-requires c κs =
       part-length (here .at) _ (here .rows) (row-end _ _ _ _ (here .inv .1) (start .pre .0) test .inside),
     )
 
--- src/table.rt:90:9
 add-at : tie.Need-add-at Inv-loop μ-loop
 add-at c = omega (arith, row-end _ _ _ _ (c .before .before .before .before .before .before .before .before .before .before .before .before .loop .inv .1) (c .before .before .before .before .before .before .before .before .before .before .before .before .before .before .before .before .before .before .before .before .before .before .pre .0) (c .before .before .before .before .before .before .before .before .before .before .before .loop-test .taken))
 
--- src/table.rt:91:9
 add-k : tie.Need-add-k Inv-loop μ-loop
 add-k c = search needs
 
--- src/table.rt:87:5
 loop-less : tie.Need-loop-less Inv-loop μ-loop
 loop-less c = search needs
 
--- src/table.rt:87:5
 loop-again : tie.Need-loop-again Inv-loop μ-loop
 loop-again c =
     let start = c .before .before .before .before .before .before .before .before .before .before .before .before .before .before .before .before .before .before .before .before .before .before in
@@ -99,19 +81,15 @@ loop-again c =
       filled .kept .1 .1 .1 .1 .1 .1 .1 .1 .1 .1 .0 ∙ here .inv .3,
     )
 
--- src/table.rt:67:1
 same-length : tie.Need-same-length Inv-loop μ-loop
 same-length c = search needs
 
--- src/table.rt:67:1
 same-length-2 : tie.Need-same-length-2 Inv-loop μ-loop
 same-length-2 c = search needs
 
--- src/table.rt:67:1
 same-length-3 : tie.Need-same-length-3 Inv-loop μ-loop
 same-length-3 c = search needs
 
--- src/table.rt:67:1
 returns : tie.Need-returns Inv-loop μ-loop
 returns c = fill-all _ _ _ _ (c .before .loop .inv .1) (le-antisymm (c .before .loop .inv .0) (c .loop-test .left))
 

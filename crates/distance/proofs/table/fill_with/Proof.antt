@@ -5,16 +5,10 @@ use Rattle.distance.proofs.Rooms.{can-link}
 use borrow.Author.Needs.{needs}
 use Rattle.distance.proofs.table.fill_with.Statement.{statement}
 use Rattle.distance.proofs.table.fill_with.Tie as tie
-use Rattle.distance.proofs.table.fill_with.Reads as reads
-use Rattle.distance.proofs.table.fill_with.Lts as lts
-use Rattle.distance.proofs.arcs.link.Reads as link-reads
-use Rattle.distance.proofs.table.fill_rows.Reads as fill-rows-reads
 
--- src/table.rt:113:5
 link-requires : tie.Need-link-requires
 link-requires c κs = can-link (network-accepted _ (c .before .before .before .before .before .before .before .before .before .before .before .pre .0 .accepted)) (c .before .before .before .before .before .before .before .before .before .before .before .pre .1 .0)
 
--- src/table.rt:114:5
 fill-rows-requires : tie.Need-fill-rows-requires
 fill-rows-requires c κs =
     let start = c .before .before .before .before .before .before .before .before .before .before .before .before .before .before .before .before .before .before .before .before .before in
@@ -27,27 +21,21 @@ fill-rows-requires c κs =
       },
     )
 
--- src/table.rt:96:1
 same-length : tie.Need-same-length
 same-length c = search needs
 
--- src/table.rt:96:1
 same-length-2 : tie.Need-same-length-2
 same-length-2 c = search needs
 
--- src/table.rt:96:1
 same-length-3 : tie.Need-same-length-3
 same-length-3 c = search needs
 
--- src/table.rt:96:1
 same-length-4 : tie.Need-same-length-4
 same-length-4 c = search needs
 
--- src/table.rt:96:1
 same-length-5 : tie.Need-same-length-5
 same-length-5 c = search needs
 
--- src/table.rt:96:1
 returns : tie.Need-returns
 returns c = search needs
 

@@ -1,7 +1,7 @@
 use mathlib.Core.Path.{sym}
 use borrow.Author.Tests.{le-leb, lt-leb}
 use Rattle.model.proofs.Laws.Refusal.{unless-accepts, unless-refuses}
-use Rattle.readers.specs.Answers.{roomCheck}
+use Rattle.model.specs.Checks.{roomCheck}
 use Rattle.readers.proofs.answer_list.check_room.Statement.{statement}
 use Rattle.readers.proofs.answer_list.check_room.Tie as tie
 

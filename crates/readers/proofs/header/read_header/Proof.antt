@@ -6,32 +6,22 @@ use Rattle.readers.proofs.Headed.{no-text, header-missing, header-found
 use borrow.Author.Needs.{needs}
 use Rattle.readers.proofs.header.read_header.Statement.{statement}
 use Rattle.readers.proofs.header.read_header.Tie as tie
-use Rattle.readers.proofs.header.read_header.Reads as reads
-use Rattle.readers.proofs.header.read_header.Lts as lts
-use Rattle.text.proofs.same_bytes.Reads as same-bytes-reads
-use Rattle.text.proofs.csv_line.Reads as csv-line-reads
 
--- src/header.rt:15:9
 returns : tie.Need-returns
 returns c = no-text _ _ (c .if1 .taken)
 
--- src/header.rt:17:9
 csv-line-requires : tie.Need-csv-line-requires
 csv-line-requires c κs = search needs
 
--- src/header.rt:19:33
 slice-aggregate-same-bytes : tie.Need-slice-aggregate-same-bytes
 slice-aggregate-same-bytes c = sym (length-take-le _ _ (omega (arith, c .before .csv-line .ensures .ordered, c .before .csv-line .ensures .inside)))
 
--- src/header.rt:19:9
 same-bytes-requires : tie.Need-same-bytes-requires
 same-bytes-requires c κs = search needs
 
--- src/header.rt:20:9
 returns-2 : tie.Need-returns-2
 returns-2 c = header-missing _ _ (omega arith) (c .before .before .before .csv-line .ensures) (sym (c .before .same-bytes .ensures) ∙ not-true _ (c .if2 .taken))
 
--- src/header.rt:11:1
 returns-3 : tie.Need-returns-3
 returns-3 c = header-found _ _ (omega arith) (c .before .before .before .csv-line .ensures) (sym (c .before .same-bytes .ensures) ∙ not-false _ (c .if2 .left))
 

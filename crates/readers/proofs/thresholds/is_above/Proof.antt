@@ -3,26 +3,19 @@ use native.Mathlib.Omega.{arith}
 use Rattle.readers.proofs.ThresholdSteps.{above-none, above-some}
 use Rattle.readers.proofs.thresholds.is_above.Statement.{statement}
 use Rattle.readers.proofs.thresholds.is_above.Tie as tie
-use Rattle.readers.proofs.thresholds.is_above.Reads as reads
-use Rattle.readers.proofs.thresholds.is_above.Lts as lts
 
--- src/thresholds.rt:21:9
 returns : tie.Need-returns
 returns c = above-none _ _ _ (c .if1 .taken)
 
--- src/thresholds.rt:23:10
 sub-result : tie.Need-sub-result
 sub-result c = search needs
 
--- src/thresholds.rt:23:5
 mul-result : tie.Need-mul-result
 mul-result c = search needs
 
--- src/thresholds.rt:23:5
 shared-slice-read-result : tie.Need-shared-slice-read-result
 shared-slice-read-result c = search needs
 
--- src/thresholds.rt:16:1
 returns-2 : tie.Need-returns-2
 returns-2 c = above-some _ _ _ (c .before .if1 .left) (omega arith)
 

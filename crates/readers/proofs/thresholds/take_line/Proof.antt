@@ -3,24 +3,16 @@ use Rattle.text.specs.ThresholdText.{thresholdStep, takeNumber}
 use borrow.Author.Needs.{needs}
 use Rattle.readers.proofs.thresholds.take_line.Statement.{statement}
 use Rattle.readers.proofs.thresholds.take_line.Tie as tie
-use Rattle.readers.proofs.thresholds.take_line.Reads as reads
-use Rattle.readers.proofs.thresholds.take_line.Lts as lts
-use Rattle.text.proofs.numbers_of.Reads as numbers-reads
-use Rattle.readers.proofs.thresholds.take_number.Reads as take-number-reads
 
--- src/thresholds.rt:63:17
 numbers-of-requires : tie.Need-numbers-of-requires
 numbers-of-requires c κs = search needs
 
--- src/thresholds.rt:63:5
 take-number-requires : tie.Need-take-number-requires
 take-number-requires c κs = search needs
 
--- src/thresholds.rt:59:1
 same-length : tie.Need-same-length
 same-length c = search needs
 
--- src/thresholds.rt:59:1
 returns : tie.Need-returns
 unfolding thresholdStep
 returns c = ap (takeNumber _) (sym (c .before .before .before .before .numbers-of .ensures)) ∙ c .before .before .take-number .ensures

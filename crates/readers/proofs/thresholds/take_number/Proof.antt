@@ -4,50 +4,37 @@ use Rattle.text.specs.ThresholdText.{takeNumber}
 use Rattle.readers.specs.Steps.{thresholdsAfter}
 use Rattle.readers.proofs.thresholds.take_number.Statement.{statement}
 use Rattle.readers.proofs.thresholds.take_number.Tie as tie
-use Rattle.readers.proofs.thresholds.take_number.Reads as reads
-use Rattle.readers.proofs.thresholds.take_number.Lts as lts
-use Rattle.readers.proofs.thresholds.take_threshold.Reads as take-threshold-reads
 
--- src/thresholds.rt:47:22
 enum-known-numbers : tie.Need-enum-known-numbers
 enum-known-numbers c = search needs
 
--- src/thresholds.rt:47:28
 take-threshold-requires : tie.Need-take-threshold-requires
 take-threshold-requires c κs = search needs
 
--- src/thresholds.rt:48:29
 enum-told : tie.Need-enum-told
 enum-told c = search needs
 
--- src/thresholds.rt:49:31
 enum-told-2 : tie.Need-enum-told-2
 enum-told-2 c = search needs
 
--- src/thresholds.rt:50:36
 enum-told-3 : tie.Need-enum-told-3
 enum-told-3 c = search needs
 
--- src/thresholds.rt:42:1
 same-length : tie.Need-same-length
 same-length c = search needs
 
--- src/thresholds.rt:42:1
 returns : tie.Need-returns
 unfolding takeNumber
 returns c = ap (takeNumber _) (c .before .before .before .before .before .numbers .given .1) ∙ c .before .before .take-threshold .ensures
 
--- src/thresholds.rt:42:1
 returns-2 : tie.Need-returns-2
 unfolding takeNumber thresholdsAfter
 returns-2 c = ap (takeNumber _) (c .enum-told .given .1)
 
--- src/thresholds.rt:42:1
 returns-3 : tie.Need-returns-3
 unfolding takeNumber thresholdsAfter
 returns-3 c = ap (takeNumber _) (c .enum-told2 .given .1)
 
--- src/thresholds.rt:42:1
 returns-4 : tie.Need-returns-4
 unfolding takeNumber thresholdsAfter
 returns-4 c = ap (takeNumber _) (c .enum-told3 .given .1)

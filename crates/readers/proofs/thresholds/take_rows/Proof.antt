@@ -7,10 +7,6 @@ use Rattle.readers.proofs.Progress.{line-long, less-left}
 use Rattle.readers.proofs.ThresholdRows.{ThresholdsSoFar, rows-begin, row-taken, row-refused, rows-none, rows-some}
 use Rattle.readers.proofs.thresholds.take_rows.Statement.{statement}
 use Rattle.readers.proofs.thresholds.take_rows.Tie as tie
-use Rattle.readers.proofs.thresholds.take_rows.Reads as reads
-use Rattle.readers.proofs.thresholds.take_rows.Lts as lts
-use Rattle.readers.proofs.thresholds.take_line.Reads as take-line-reads
-use Rattle.text.proofs.csv_line.Reads as csv-line-reads
 
 abbrev Inv-loop : tie.InvT-loop
 Inv-loop rows list₀ at₀ count₀ list at count = ThresholdsSoFar rows list at count × (length list ≡ length list₀)
@@ -18,86 +14,66 @@ Inv-loop rows list₀ at₀ count₀ list at count = ThresholdsSoFar rows list a
 abbrev μ-loop : tie.MeasureT-loop
 μ-loop rows list₀ at₀ count₀ list at count = length rows - at
 
--- src/thresholds.rt:73:5
 loop-holds : tie.Need-loop-holds Inv-loop μ-loop
 loop-holds c = (rows-begin _ _ (omega arith), refl)
 
--- src/thresholds.rt:74:20
 sub-rest : tie.Need-sub-rest Inv-loop μ-loop
 sub-rest c = search needs
 
--- src/thresholds.rt:74:20
 part-rest-start : tie.Need-part-rest-start Inv-loop μ-loop
 part-rest-start c = search needs
 
--- src/thresholds.rt:74:20
 part-rest-end : tie.Need-part-rest-end Inv-loop μ-loop
 part-rest-end c = search needs
 
--- src/thresholds.rt:75:13
 csv-line-requires : tie.Need-csv-line-requires Inv-loop μ-loop
 csv-line-requires c κs = search needs
 
--- src/thresholds.rt:77:54
 slice-aggregate-take-line : tie.Need-slice-aggregate-take-line Inv-loop μ-loop
 slice-aggregate-take-line c = line-long (c .before .before .before .before .loop .inv .0 .progress) (c .before .before .before .loop-test .taken) (c .before .csv-line .ensures)
 
--- src/thresholds.rt:77:44
 take-line-requires : tie.Need-take-line-requires Inv-loop μ-loop
 take-line-requires c κs = search needs
 
--- src/thresholds.rt:77:34
 enum-known-number : tie.Need-enum-known-number Inv-loop μ-loop
 enum-known-number c = search needs
 
--- src/thresholds.rt:78:46
 add-t18 : tie.Need-add-t18 Inv-loop μ-loop
 add-t18 c = search needs
 
--- src/thresholds.rt:78:13
 same-length : tie.Need-same-length Inv-loop μ-loop
 same-length c = c .before .before .before .before .before .take-line .kept .1 .1 .0 ∙ c .before .before .before .before .before .before .before .before .before .before .before .loop .inv .1
 
--- src/thresholds.rt:78:13
 returns : tie.Need-returns Inv-loop μ-loop
 returns c = row-refused (c .before .before .before .before .before .before .before .before .before .before .before .loop .inv .0) (c .before .before .before .before .before .before .before .before .before .before .loop-test .taken) (c .before .before .before .before .before .before .before .before .csv-line .ensures) (c .before .before .before .before .before .take-line .ensures) (c .before .number .given .1)
 
 enum-told : tie.Need-enum-told Inv-loop μ-loop
 enum-told c = search needs
 
--- src/thresholds.rt:80:9
 add-at : tie.Need-add-at Inv-loop μ-loop
 add-at c = search needs
 
--- src/thresholds.rt:81:9
 add-count : tie.Need-add-count Inv-loop μ-loop
 add-count c = search needs
 
--- src/thresholds.rt:73:5
 loop-less : tie.Need-loop-less Inv-loop μ-loop
 loop-less c = less-left (c .before .before .before .before .before .before .before .before .before .before .before .loop .inv .0 .progress) (c .before .before .before .before .before .before .before .before .before .before .loop-test .taken) (c .before .before .before .before .before .before .before .before .csv-line .ensures)
 
--- src/thresholds.rt:73:5
 loop-again : tie.Need-loop-again Inv-loop μ-loop
 loop-again c = (row-taken (c .before .before .before .before .before .before .before .before .before .before .before .loop .inv .0) (c .before .before .before .before .before .before .before .before .before .before .loop-test .taken) (c .before .before .before .before .before .before .before .before .csv-line .ensures) (c .before .before .before .before .before .take-line .ensures) (c .before .enum-told .given .1) (c .before .before .before .before .before .take-line .kept .1 .1 .0), c .before .before .before .before .before .take-line .kept .1 .1 .0 ∙ c .before .before .before .before .before .before .before .before .before .before .before .loop .inv .1)
 
--- src/thresholds.rt:84:50
 add-t20 : tie.Need-add-t20 Inv-loop μ-loop
 add-t20 c = search needs
 
--- src/thresholds.rt:84:9
 same-length-2 : tie.Need-same-length-2 Inv-loop μ-loop
 same-length-2 c = c .before .before .loop .inv .1
 
--- src/thresholds.rt:84:9
 returns-2 : tie.Need-returns-2 Inv-loop μ-loop
 returns-2 c = rows-none (c .before .before .loop .inv .0) (c .before .loop-test .left) (c .if1 .taken)
 
--- src/thresholds.rt:67:1
 same-length-3 : tie.Need-same-length-3 Inv-loop μ-loop
 same-length-3 c = c .before .before .loop .inv .1
 
--- src/thresholds.rt:67:1
 returns-3 : tie.Need-returns-3 Inv-loop μ-loop
 returns-3 c = rows-some (c .before .before .loop .inv .0) (c .before .loop-test .left) (c .if1 .left)
 

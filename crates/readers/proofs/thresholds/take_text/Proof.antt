@@ -2,52 +2,37 @@ use Rattle.readers.proofs.ThresholdRows.{text-refused, text-taken}
 use borrow.Author.Needs.{needs}
 use Rattle.readers.proofs.thresholds.take_text.Statement.{statement}
 use Rattle.readers.proofs.thresholds.take_text.Tie as tie
-use Rattle.readers.proofs.thresholds.take_text.Reads as reads
-use Rattle.readers.proofs.thresholds.take_text.Lts as lts
-use Rattle.readers.proofs.header.read_header.Reads as read-header-reads
-use Rattle.readers.proofs.thresholds.take_rows.Reads as take-rows-reads
 
--- src/thresholds.rt:94:23
 slice-aggregate-read-header : tie.Need-slice-aggregate-read-header
 slice-aggregate-read-header c = search needs
 
--- src/thresholds.rt:94:11
 read-header-requires : tie.Need-read-header-requires
 read-header-requires c κs = search needs
 
--- src/thresholds.rt:95:28
 enum-told : tie.Need-enum-told
 enum-told c = search needs
 
--- src/thresholds.rt:96:26
 enum-known-start : tie.Need-enum-known-start
 enum-known-start c = search needs
 
--- src/thresholds.rt:96:46
 sub-take-rows : tie.Need-sub-take-rows
 sub-take-rows c = c .before .before .before .read-header .ensures .there _ (c .before .start .given .1) .within
 
--- src/thresholds.rt:96:46
 part-take-rows-start : tie.Need-part-take-rows-start
 part-take-rows-start c = c .before .before .before .read-header .ensures .there _ (c .before .start .given .1) .within
 
--- src/thresholds.rt:96:46
 part-take-rows-end : tie.Need-part-take-rows-end
 part-take-rows-end c = search needs
 
--- src/thresholds.rt:96:36
 take-rows-requires : tie.Need-take-rows-requires
 take-rows-requires c κs = search needs
 
--- src/thresholds.rt:90:1
 returns : tie.Need-returns
 returns c = text-refused _ _ (c .before .before .read-header .ensures .missing (c .enum-told .given .1))
 
--- src/thresholds.rt:90:1
 same-length : tie.Need-same-length
 same-length c = search needs
 
--- src/thresholds.rt:90:1
 returns-2 : tie.Need-returns-2
 returns-2 c = text-taken (c .before .before .before .before .before .before .before .before .read-header .ensures .there _ (c .before .before .before .before .before .before .start .given .1)) (c .before .before .take-rows .ensures)
 

@@ -6,42 +6,31 @@ use Rattle.readers.specs.Steps.{thresholdsAfter}
 use Rattle.readers.proofs.ThresholdSteps.{one-too-many, not-above, threshold-taken}
 use Rattle.readers.proofs.thresholds.take_threshold.Statement.{statement}
 use Rattle.readers.proofs.thresholds.take_threshold.Tie as tie
-use Rattle.readers.proofs.thresholds.take_threshold.Reads as reads
-use Rattle.readers.proofs.thresholds.take_threshold.Lts as lts
-use Rattle.readers.proofs.thresholds.is_above.Reads as is-above-reads
 
--- src/thresholds.rt:32:9
 returns : tie.Need-returns
 unfolding thresholdsAfter
 returns c = one-too-many _ _ _ (omega arith) (c .if1 .taken)
 
--- src/thresholds.rt:34:9
 is-above-requires : tie.Need-is-above-requires
 is-above-requires c κs = search needs
 
--- src/thresholds.rt:35:9
 same-length : tie.Need-same-length
 same-length c = search needs
 
--- src/thresholds.rt:35:9
 returns-2 : tie.Need-returns-2
 unfolding thresholdsAfter
 returns-2 c = let a = c .before .before .before .before .before .args in
     not-above (a .list .now) (a .count) (a .t) (omega arith) (omega arith) (sym (c .before .is-above .ensures) ∙ not-true _ (c .if2 .taken))
 
--- src/thresholds.rt:37:5
 mul-list : tie.Need-mul-list
 mul-list c = search needs
 
--- src/thresholds.rt:37:5
 slice-write-list : tie.Need-slice-write-list
 slice-write-list c = search needs
 
--- src/thresholds.rt:27:1
 same-length-2 : tie.Need-same-length-2
 same-length-2 c = search needs
 
--- src/thresholds.rt:27:1
 returns-3 : tie.Need-returns-3
 unfolding thresholdsAfter
 returns-3 c = let a = c .before .before .before .before .before .args in

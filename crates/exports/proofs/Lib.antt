@@ -1,0 +1,2 @@
+-- How each answer is told.
+mod Telling

@@ -1,0 +1,2 @@
+-- How an answer is told to a caller in another language.
+pub mod Told
