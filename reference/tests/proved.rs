@@ -34,8 +34,7 @@ impl Met {
     }
 }
 
-/// Mostly small, now and then with lengths up to the limit or a single node or
-/// leg; damaged if wanted.
+/// Small, now and then with lengths up to the limit; damaged if wanted.
 fn network(rng: &mut Rng, damaged: bool) -> NetworkInput {
     let length = rng.pick(&[1, 3, 9, 40, MAX_LENGTH], 9);
     let mut input = random::network(rng, 8, 11, length);
@@ -268,25 +267,24 @@ fn networks_at_the_limits() {
             }
         }
         for _ in 0..40 {
-            let ((leg1, offset1), (leg2, offset2)) = (
-                (rng.between(1, legs), rng.between(0, 1)),
-                (rng.between(1, legs), rng.between(0, 1)),
-            );
-            let [a, b] = [(leg1, offset1), (leg2, offset2)].map(|(leg, offset)| Location { leg, offset });
-            let expected = location_distance(&network, &table, a, b);
-            assert_eq!(library::location_distance(&input, (leg1, offset1), (leg2, offset2)), expected);
+            let [one, other] = [0; 2].map(|_| {
+                let leg = rng.between(1, legs);
+                (leg, rng.between(0, input.lengths[leg as usize - 1]))
+            });
+            let [a, b] = [one, other].map(|(leg, offset)| Location { leg, offset });
+            assert_eq!(library::location_distance(&input, one, other), location_distance(&network, &table, a, b));
             let radius = rng.between(0, 20 * MAX_LENGTH);
             let expected = perimeter_closed(&network, &adjacency, a, radius);
-            assert_eq!(library::perimeter_count(&input, (leg1, offset1), radius), expected);
+            assert_eq!(library::perimeter_count(&input, one, radius), expected);
         }
     }
 }
 
 /// Damaged by bytes, by lines, or not at all.
-fn damaged_text(rng: &mut Rng, text: Vec<u8>) -> Vec<u8> {
+fn damaged_text(rng: &mut Rng, text: Vec<u8>, csv: bool) -> Vec<u8> {
     match rng.below(3) {
         0 => random::damage_bytes(rng, &text),
-        1 => random::damage_lines(rng, &text, true),
+        1 => random::damage_lines(rng, &text, csv),
         _ => text,
     }
 }
@@ -301,7 +299,7 @@ fn threshold_texts() {
             random::damage_thresholds(&mut rng, &mut values);
         }
         let written = random::thresholds_text(&mut rng, &values);
-        let mut text = damaged_text(&mut rng, written);
+        let mut text = damaged_text(&mut rng, written, true);
         if turn % 500 == 0 {
             let size = random::size_near_limit(&mut rng);
             text.resize(size, b'1');
@@ -332,7 +330,7 @@ fn report_texts() {
             random::damage_network(&mut rng, &mut input);
         }
         let written = random::reports_text(&mut rng, &reports);
-        let mut text = damaged_text(&mut rng, written);
+        let mut text = damaged_text(&mut rng, written, true);
         if turn % 200 == 0 {
             let size = random::size_near_limit(&mut rng);
             text = random::long_reports(&mut rng, 9, size);
@@ -349,4 +347,33 @@ fn report_texts() {
         met.note(&told);
     }
     met.all(&[0, 1, 2, 3, 4, 6, 7, 8, 9, 12, 13, 14, 15, 16]);
+}
+
+#[test]
+fn network_texts() {
+    let mut rng = Rng::new(109);
+    let mut met = Met::default();
+    for turn in 0..20_000 {
+        let mut input = network(&mut rng, false);
+        if rng.once_in(4) {
+            random::damage_network(&mut rng, &mut input);
+        }
+        let written = random::network_text(&mut rng, &input);
+        let mut text = damaged_text(&mut rng, written, false);
+        if turn % 200 == 0 {
+            let size = random::size_near_limit(&mut rng);
+            text = random::stretch_gr(&text, size);
+        }
+        let wanted = input.lengths.len();
+        let mut lists: Vec<Vec<u32>> = (0..3).map(|_| answer_list(&mut rng, wanted)).collect();
+        let mut expected_lists = lists.clone();
+        let [f, s, l] = &mut expected_lists[..] else { unreachable!() };
+        let expected = text::read_network(&text, f, s, l);
+        let [f, s, l] = &mut lists[..] else { unreachable!() };
+        let told = library::read_network(&text, f, s, l);
+        assert_eq!(told, expected, "{:?}", String::from_utf8_lossy(&text));
+        assert_eq!(lists, expected_lists, "{:?}", String::from_utf8_lossy(&text));
+        met.note(&told);
+    }
+    met.all(&[0, 1, 2, 3, 5, 6, 7, 8, 9, 10, 11]);
 }

@@ -1,5 +1,5 @@
 -- Each answer, told as numbers.
-use mathlib.Core.Path.{_≡_, refl, sym, subst}
+use mathlib.Core.Path.{_≡_, refl, sym, ap, subst}
 use Prim.Native.Nat.{ℕ, suc, _+_}
 use native.Mathlib.Numerals.{add-one}
 use Rattle.model.specs.declared.check.Check.{Check}
@@ -13,14 +13,16 @@ use Rattle.perimeter.specs.declared.Counted.{Counted}
 use Rattle.perimeter.specs.declared.Counted.the-variants as count-answer
 use Rattle.readers.specs.declared.answers.ReadList.{ReadList}
 use Rattle.readers.specs.declared.answers.ReadList.the-variants as list-answer
-use Rattle.exports.specs.Told.{Told, ToldWith, lengthVerdict, lengthCode, boundedVerdict, boundedCode, countVerdict, countOf, listVerdict, readOf}
+use Rattle.readers.specs.declared.answers.ReadNetwork.{ReadNetwork}
+use Rattle.readers.specs.declared.answers.ReadNetwork.the-variants as network-answer
+use Rattle.exports.specs.Told.{Told, ToldWith, lengthVerdict, lengthCode, boundedVerdict, boundedCode, countVerdict, countOf, listVerdict, readOf, networkVerdict, edgesRead, nodesRead, ToldNetwork}
 use mathlib.Core.List.{List}
 use lib.ListN.{length}
 use Rattle.model.specs.Checks.{layoutCheck}
 use Rattle.model.specs.Network.{Network}
 use Rattle.layout.specs.Layout.{LaidOut}
 use Rattle.distance.specs.Answers.{rowCheck, RowAnswered}
-use Rattle.readers.specs.Answers.{listAnswer, thresholdTextCheck, textThresholds, ThresholdsRead, eventTextCheck, textRows, EventsRead}
+use Rattle.readers.specs.Answers.{listAnswer, thresholdTextCheck, textThresholds, ThresholdsRead, eventTextCheck, textRows, EventsRead, networkAnswer, networkTextCheck, textNetwork, NetworkRead}
 
 -- nothing is refused
 pub told-accepted : {v : Check} → v ≡ Accepted → Told v 0 0
@@ -99,3 +101,15 @@ thresholds-read {bytes} {old} {new} read told = (retold listVerdict readOf (read
 -- events read, and the answer told
 pub events-read : {net : Network} {bytes xs ys zs xs′ ys′ zs′ : List ℕ} {a : ReadList} {r n p : ℕ} → EventsRead net bytes xs ys zs a xs′ ys′ zs′ → ToldWith (listVerdict a) (readOf a) r n p → ToldWith (listVerdict (listAnswer (eventTextCheck net bytes xs ys zs) (length (textRows net bytes)))) (readOf (listAnswer (eventTextCheck net bytes xs ys zs) (length (textRows net bytes)))) r n p × EventsRead net bytes xs ys zs (listAnswer (eventTextCheck net bytes xs ys zs) (length (textRows net bytes))) xs′ ys′ zs′
 events-read {net} {bytes} {xs} {ys} {zs} {xs′} {ys′} {zs′} read told = (retold listVerdict readOf (read .answer) told, subst (λ a. EventsRead net bytes xs ys zs a xs′ ys′ zs′) (read .answer) read)
+
+pub network-read : {a : ReadNetwork} {nodes edges : ℕ} → a ≡ network-answer.Read nodes edges → ToldNetwork a edges nodes 0 0
+unfolding networkVerdict edgesRead nodesRead
+network-read e = record { told = with-accepted networkVerdict edgesRead e refl refl; nodes-are = sym (ap nodesRead e) }
+
+pub network-refused : {a : ReadNetwork} {n p : ℕ} → a ≡ network-answer.Refused n p → ToldNetwork a 0 0 n p
+unfolding networkVerdict edgesRead nodesRead
+network-refused e = record { told = with-refused networkVerdict edgesRead e refl refl; nodes-are = sym (ap nodesRead e) }
+
+-- a network read, and the answer told
+pub read-network : {bytes xs ys zs xs′ ys′ zs′ : List ℕ} {a : ReadNetwork} {r nodes n p : ℕ} → NetworkRead bytes xs ys zs a xs′ ys′ zs′ → ToldNetwork a r nodes n p → ToldNetwork (networkAnswer (networkTextCheck bytes xs ys zs) (textNetwork bytes)) r nodes n p × NetworkRead bytes xs ys zs (networkAnswer (networkTextCheck bytes xs ys zs) (textNetwork bytes)) xs′ ys′ zs′
+read-network {bytes} {xs} {ys} {zs} {xs′} {ys′} {zs′} {a} {r} {nodes} {n} {p} read told = (subst (λ a. ToldNetwork a r nodes n p) (read .answer) told, subst (λ a. NetworkRead bytes xs ys zs a xs′ ys′ zs′) (read .answer) read)

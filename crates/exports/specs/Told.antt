@@ -12,6 +12,8 @@ use Rattle.perimeter.specs.declared.Counted.{Counted}
 use Rattle.perimeter.specs.declared.Counted.the-variants as count-answer
 use Rattle.readers.specs.declared.answers.ReadList.{ReadList}
 use Rattle.readers.specs.declared.answers.ReadList.the-variants as list-answer
+use Rattle.readers.specs.declared.answers.ReadNetwork.{ReadNetwork}
+use Rattle.readers.specs.declared.answers.ReadNetwork.the-variants as network-answer
 
 -- 0 and 0 where nothing is refused
 pub record Told (verdict : Check) (number place : ℕ) : Type 0 where
@@ -61,3 +63,21 @@ countOf (count-answer.Refused number place) = 0
 unfoldable pub readOf : ReadList → ℕ
 readOf (list-answer.Read n) = n
 readOf (list-answer.Refused number place) = 0
+
+-- a network's answer: the verdict, the edges and the nodes; 0 where refused
+unfoldable pub networkVerdict : ReadNetwork → Check
+networkVerdict (network-answer.Read nodes edges) = Accepted
+networkVerdict (network-answer.Refused number place) = Refused number place
+
+unfoldable pub edgesRead : ReadNetwork → ℕ
+edgesRead (network-answer.Read nodes edges) = edges
+edgesRead (network-answer.Refused number place) = 0
+
+unfoldable pub nodesRead : ReadNetwork → ℕ
+nodesRead (network-answer.Read nodes edges) = nodes
+nodesRead (network-answer.Refused number place) = 0
+
+-- a network read, with the number of nodes beside the other answers
+pub record ToldNetwork (a : ReadNetwork) (r nodes number place : ℕ) : Type 0 where
+  pub told : ToldWith (networkVerdict a) (edgesRead a) r number place
+  pub nodes-are : nodes ≡ nodesRead a

@@ -8,8 +8,8 @@ ghost use Rattle.model.specs.Network.{network};
 ghost use Rattle.layout.specs.Layout.{LaidOut};
 ghost use Rattle.distance.specs.Answers.{rowCheck, RowAnswered, nodeAnswer, boundedNodeAnswer, locationAnswer};
 ghost use Rattle.perimeter.specs.Answers.{perimeterAnswer};
-ghost use Rattle.readers.specs.Answers.{listAnswer, thresholdTextCheck, textThresholds, ThresholdsRead, eventTextCheck, textRows, EventsRead};
-ghost use Rattle.exports.specs.Told.{Told, ToldWith, lengthVerdict, lengthCode, boundedVerdict, boundedCode, countVerdict, countOf, listVerdict, readOf};
+ghost use Rattle.readers.specs.Answers.{listAnswer, thresholdTextCheck, textThresholds, ThresholdsRead, eventTextCheck, textRows, EventsRead, networkAnswer, networkTextCheck, textNetwork, NetworkRead};
+ghost use Rattle.exports.specs.Told.{Told, ToldWith, lengthVerdict, lengthCode, boundedVerdict, boundedCode, countVerdict, countOf, listVerdict, readOf, ToldNetwork};
 
 // The events of one set, sorted in place by edge and then by offset.
 #[no_mangle]
@@ -165,4 +165,22 @@ pub extern "C" fn kc_read_events(
 {
     let answer = readers::read_events(text, nodes, firsts, seconds, lengths, sets, edges, offsets);
     told::tell_list(answer, number, place)
+}
+
+// How many edges were read from a network text, and the number of nodes beside it; 0 where refused.
+#[no_mangle]
+pub extern "C" fn kc_read_network(
+    text: &[u8],
+    firsts: &mut [u32],
+    seconds: &mut [u32],
+    lengths: &mut [u32],
+    nodes: &mut u32,
+    number: &mut u32,
+    place: &mut usize,
+) -> usize
+    ensures { λ r. ⌜ ToldNetwork (networkAnswer (networkTextCheck (now (text .entry)) (now (firsts .entry)) (now (seconds .entry)) (now (lengths .entry))) (textNetwork (now (text .entry)))) r (now (nodes .exit)) (now (number .exit)) (now (place .exit)) ⌝ }
+    ensures { λ r. ⌜ NetworkRead (now (text .entry)) (now (firsts .entry)) (now (seconds .entry)) (now (lengths .entry)) (networkAnswer (networkTextCheck (now (text .entry)) (now (firsts .entry)) (now (seconds .entry)) (now (lengths .entry))) (textNetwork (now (text .entry)))) (now (firsts .exit)) (now (seconds .exit)) (now (lengths .exit)) ⌝ }
+{
+    let answer = readers::read_network(text, firsts, seconds, lengths);
+    told::tell_network(answer, nodes, number, place)
 }

@@ -1,10 +1,11 @@
 // An answer told as plain numbers: a refusal through number and place, 0 and 0 where there is none.
-ghost use Rattle.exports.specs.Told.{Told, ToldWith, lengthVerdict, lengthCode, boundedVerdict, boundedCode, countVerdict, countOf, listVerdict, readOf};
+ghost use Rattle.exports.specs.Told.{Told, ToldWith, lengthVerdict, lengthCode, boundedVerdict, boundedCode, countVerdict, countOf, listVerdict, readOf, ToldNetwork};
 use distance::BoundedLength;
 use distance::Length;
 use model::Check;
 use perimeter::Counted;
 use readers::ReadList;
+use readers::ReadNetwork;
 
 pub fn tell(verdict: Check, number: &mut u32, place: &mut usize)
     ensures { λ _. ⌜ Told verdict (now (number .exit)) (now (place .exit)) ⌝ }
@@ -74,6 +75,30 @@ pub fn tell_list(answer: ReadList, number: &mut u32, place: &mut usize) -> usize
     match answer {
         ReadList::Read(n) => n,
         ReadList::Refused(n, p) => {
+            *number = n;
+            *place = p;
+            0
+        }
+    }
+}
+
+pub fn tell_network(
+    answer: ReadNetwork,
+    nodes: &mut u32,
+    number: &mut u32,
+    place: &mut usize,
+) -> usize
+    ensures { λ r. ⌜ ToldNetwork answer r (now (nodes .exit)) (now (number .exit)) (now (place .exit)) ⌝ }
+{
+    *nodes = 0;
+    *number = 0;
+    *place = 0;
+    match answer {
+        ReadNetwork::Read(n, edges) => {
+            *nodes = n;
+            edges
+        }
+        ReadNetwork::Refused(n, p) => {
             *number = n;
             *place = p;
             0

@@ -52,6 +52,11 @@ extern "C" {
         sets: *mut u32, sets_len: usize, edges: *mut u32, edges_len: usize, offsets: *mut u32, offsets_len: usize,
         number: *mut u32, place: *mut usize,
     ) -> usize;
+    fn kc_read_network(
+        text: *const u8, text_len: usize,
+        firsts: *mut u32, firsts_len: usize, seconds: *mut u32, seconds_len: usize, lengths: *mut u32, lengths_len: usize,
+        nodes: *mut u32, number: *mut u32, place: *mut usize,
+    ) -> usize;
 }
 
 /// What was told through number and place. Both start at values that no
@@ -160,5 +165,26 @@ pub fn read_events(
             sets.as_mut_ptr(), sets.len(), edges.as_mut_ptr(), edges.len(), offsets.as_mut_ptr(), offsets.len(),
             number, place,
         )
+    })
+}
+
+/// The number of nodes and of edges.
+pub fn read_network(
+    text: &[u8],
+    firsts: &mut [u32],
+    seconds: &mut [u32],
+    lengths: &mut [u32],
+) -> Result<(u32, usize), Refusal> {
+    told(|number, place| {
+        let mut nodes = 77;
+        // SAFETY: as above.
+        let edges = unsafe {
+            kc_read_network(
+                text.as_ptr(), text.len(),
+                firsts.as_mut_ptr(), firsts.len(), seconds.as_mut_ptr(), seconds.len(), lengths.as_mut_ptr(), lengths.len(),
+                &mut nodes, number, place,
+            )
+        };
+        (nodes, edges)
     })
 }

@@ -1,0 +1,50 @@
+/* The proved library from C: link target/staticlib/libexports.a (made by `rt staticlib exports`).
+   Pointers must not be null (for an empty list any non-null pointer serves) and lists must not overlap.
+   A refusal's number and place are told through number and place, 0 and 0 where nothing is refused; see README.md.
+   Distances are one more than the metres, and 0 for 'no walk', 'beyond' or a refusal. */
+#ifndef ZANWETHOL_H
+#define ZANWETHOL_H
+
+#include <stddef.h>
+#include <stdint.h>
+
+/* Puts one set's reports in order by leg, then by offset. */
+void kc_lay_out(uint32_t *legs, size_t legs_len, uint32_t *offsets, size_t offsets_len, uint32_t *number, size_t *place);
+
+/* Distances from a node to every node, as far as the bound, into answers. */
+void kc_distances_from(uint32_t nodes, const uint32_t *firsts, size_t firsts_len, const uint32_t *seconds,
+                       size_t seconds_len, const uint32_t *lengths, size_t lengths_len, uint32_t source, uint32_t bound,
+                       uint32_t *answers, size_t answers_len, uint32_t *number, size_t *place);
+
+uint64_t kc_node_distance(uint32_t nodes, const uint32_t *firsts, size_t firsts_len, const uint32_t *seconds,
+                          size_t seconds_len, const uint32_t *lengths, size_t lengths_len, uint32_t u, uint32_t v,
+                          uint32_t *number, size_t *place);
+
+uint64_t kc_bounded_node_distance(uint32_t nodes, const uint32_t *firsts, size_t firsts_len, const uint32_t *seconds,
+                                  size_t seconds_len, const uint32_t *lengths, size_t lengths_len, uint32_t bound,
+                                  uint32_t u, uint32_t v, uint32_t *number, size_t *place);
+
+/* The distance of two places, each a leg and an offset. */
+uint64_t kc_location_distance(uint32_t nodes, const uint32_t *firsts, size_t firsts_len, const uint32_t *seconds,
+                              size_t seconds_len, const uint32_t *lengths, size_t lengths_len, uint32_t leg1,
+                              uint32_t offset1, uint32_t leg2, uint32_t offset2, uint32_t *number, size_t *place);
+
+/* How many places lie at exactly the radius from a leg and offset. */
+uint32_t kc_perimeter_count(uint32_t nodes, const uint32_t *firsts, size_t firsts_len, const uint32_t *seconds,
+                            size_t seconds_len, const uint32_t *lengths, size_t lengths_len, uint32_t leg,
+                            uint32_t offset, uint32_t radius, uint32_t *number, size_t *place);
+
+/* Readers of the three texts: how many legs, reports or thresholds were read. */
+size_t kc_read_network(const uint8_t *text, size_t text_len, uint32_t *firsts, size_t firsts_len, uint32_t *seconds,
+                       size_t seconds_len, uint32_t *lengths, size_t lengths_len, uint32_t *nodes, uint32_t *number,
+                       size_t *place);
+
+size_t kc_read_events(const uint8_t *text, size_t text_len, uint32_t nodes, const uint32_t *firsts, size_t firsts_len,
+                      const uint32_t *seconds, size_t seconds_len, const uint32_t *lengths, size_t lengths_len,
+                      uint32_t *sets, size_t sets_len, uint32_t *legs, size_t legs_len, uint32_t *offsets,
+                      size_t offsets_len, uint32_t *number, size_t *place);
+
+size_t kc_read_thresholds(const uint8_t *text, size_t text_len, uint32_t *thresholds, size_t thresholds_len,
+                          uint32_t *number, size_t *place);
+
+#endif
