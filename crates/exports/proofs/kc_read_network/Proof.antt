@@ -20,7 +20,7 @@ same-length-3 : tie.Need-same-length-3
 same-length-3 c = search needs
 
 returns : tie.Need-returns
-returns c = read-network (c .before .before .before .before .before .before .before .before .before .read-network .ensures) (c .tell-network .ensures)
+returns c = read-network (c .before .before .before .before .before .before .before .before .before .before .read-network .ensures) (c .tell-network .ensures)
 
 pub kc-read-network-spec : {M : Type 1} → statement M
 kc-read-network-spec = tie.close (tie.spec read-network-requires tell-network-requires same-length same-length-2 same-length-3 returns)
