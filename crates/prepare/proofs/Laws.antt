@@ -11,3 +11,6 @@ pub mod Preparing
 pub mod LaidEvents
 pub mod InRuns
 pub mod Entries
+pub mod RunSums
+pub mod RunEvents
+pub mod CountRows

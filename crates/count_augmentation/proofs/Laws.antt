@@ -1,0 +1,9 @@
+-- One file to a concept.
+pub mod Places
+pub mod Storing
+pub mod Halving
+pub mod Reach
+pub mod Pairs
+pub mod Near
+pub mod Storage
+pub mod Sets

@@ -1,0 +1,106 @@
+-- What an event reaches of a run: first places, last places and a window, each told by a stored number.
+use mathlib.Core.Bool.{Bool, true, false, not, _&&_, _||_}
+use mathlib.Core.List.{List}
+use mathlib.Core.Path.{_≡_, refl, sym, ap, ap₂, _∙_}
+use Prim.Native.Nat.{ℕ, suc, pred, _+_, _-_, _≤_, _<_, min, max}
+use native.Mathlib.Decide.{decLe, decLt}
+use native.Mathlib.Omega.{arith}
+use borrow.Author.Tests.{le-leb, lt-leb, lt-ltb, le-ltb, leb-true, leb-false, ltb-true, not-true}
+use lib.Dec.{leb, ltb}
+use lib.ListN.{length, getD}
+use Rattle.model.proofs.Laws.Counting.{count-mono, count-at-most}
+use Rattle.model.proofs.Laws.Cover.{covered, cover-list, first-places, last-places}
+use Rattle.model.specs.Counting.{countIf}
+use Rattle.model.specs.Distance.{difference}
+use Rattle.count_augmentation.specs.Reach.{isReached, reached, together, Run}
+use Rattle.count_augmentation.specs.Storing.{Rising, OnEdge, atMost, atLeast}
+use Rattle.count_augmentation.proofs.Laws.Places.{count-before, count-not, stored-first, stored-second}
+
+-- how many offsets are below a limit, and how many are not
+abbrev pub below-limit : List ℕ → ℕ → ℕ
+below-limit ys limit = countIf (λ y. ltb y limit) ys
+
+abbrev pub from-limit : List ℕ → ℕ → ℕ
+from-limit ys limit = countIf (λ y. leb limit y) ys
+
+-- what is below a limit stands at the first places, what is not at the last
+module _ (ys : List ℕ) (rising : Rising ys) (limit : ℕ) where
+  pub below-first : (k : ℕ) → k < length ys → ltb (getD ys k 0) limit ≡ ltb k (below-limit ys limit)
+  below-first =
+      first-places (λ y. ltb y limit) ys
+      (λ k j l m e. lt-ltb (getD ys k 0) limit (omega (arith, ltb-true (getD ys j 0) limit e, rising .up k j l m)))
+
+  pub from-last : (k : ℕ) → k < length ys → leb limit (getD ys k 0) ≡ leb (length ys - from-limit ys limit) k
+  from-last =
+      last-places (λ y. leb limit y) ys
+      (λ k j l m e. le-leb limit (getD ys j 0) (omega (arith, leb-true limit (getD ys k 0) e, rising .up k j l m)))
+
+-- within reach of the second end, read as a limit on the offset
+second-limit : (q s y : ℕ) → y ≤ q → ltb (q - y) s ≡ leb (suc q - s) y
+second-limit q s y h = go (decLt (q - y) s)
+  where
+    go : Dec (q - y < s) → ltb (q - y) s ≡ leb (suc q - s) y
+    go (yes l) = lt-ltb (q - y) s l ∙ sym (le-leb (suc q - s) y (omega arith))
+    go (no l) = le-ltb (q - y) s (omega arith) ∙ sym (lt-leb (suc q - s) y (omega arith))
+
+-- the window around x
+in-window : (x y t : ℕ) → leb (difference x y) t ≡ (leb (x - t) y && ltb y (x + t + 1))
+unfolding difference
+in-window x y t = go (decLe (x - t) y) (decLt y (x + t + 1))
+  where
+    go : Dec (x - t ≤ y) → Dec (y < x + t + 1) → leb ((x - y) + (y - x)) t ≡ (leb (x - t) y && ltb y (x + t + 1))
+    go (yes l) (yes m) = simp (le-leb (x - t) y l, lt-ltb y (x + t + 1) m) (le-leb ((x - y) + (y - x)) t (omega arith))
+    go (yes l) (no m) = simp (le-leb (x - t) y l, le-ltb y (x + t + 1) (omega arith)) (lt-leb ((x - y) + (y - x)) t (omega arith))
+    go (no l) m = simp (lt-leb (x - t) y (omega arith)) (lt-leb ((x - y) + (y - x)) t (omega arith))
+
+-- no place is both from p on and before p
+no-place : (p k : ℕ) → false ≡ (leb p k && ltb k p)
+no-place p k = go (decLe p k)
+  where
+    go : Dec (p ≤ k) → false ≡ (leb p k && ltb k p)
+    go (yes l) = simp (le-leb p k l, le-ltb k p l)
+    go (no l) = simp (lt-leb p k (omega arith))
+
+-- nothing is within reach
+pub nothing-reached : (q : ℕ) (ys : List ℕ) (f s t x : ℕ) → f ≡ 0 → s ≡ 0 → 0 ≡ reached q f s false t x ys
+unfolding reached isReached
+nothing-reached q ys f s t x e g =
+    sym (count-before _ ys 0 (omega arith) (λ k l. absurd (omega arith))
+    (λ k l m. simp (le-ltb (getD ys k 0) f (omega arith), le-ltb (q - getD ys k 0) s (omega arith))))
+
+module _ (q : ℕ) (ys : List ℕ) (rising : Rising ys) (on-edge : OnEdge q ys) (f s t x : ℕ) where
+  -- the first and the last places
+  second-last : (k : ℕ) → k < length ys → ltb (q - getD ys k 0) s ≡ leb (length ys - from-limit ys (suc q - s)) k
+  second-last k h = second-limit q s (getD ys k 0) (on-edge .on k h) ∙ from-last ys rising (suc q - s) k h
+
+  -- from the two ends
+  pub reached-by-ends : together (length ys) (below-limit ys f) (from-limit ys (suc q - s)) (below-limit ys f) (below-limit ys f) ≡ reached q f s false t x ys
+  unfolding reached isReached together
+  reached-by-ends =
+      sym (cover-list ys (λ y. ltb y f) (λ y. ltb (q - y) s) (λ y. false) (below-limit ys f) (from-limit ys (suc q - s)) (below-limit ys f) (below-limit ys f)
+      (omega arith) (below-first ys rising f) second-last (λ k h. no-place (below-limit ys f) k))
+
+  -- the window does not end before it begins
+  window-opens : length ys - from-limit ys (x - t) ≤ below-limit ys (x + t + 1)
+  window-opens =
+      omega (
+        arith,
+        count-not (λ y. leb (x - t) y) ys,
+        count-mono (λ y. not (leb (x - t) y)) (λ y. ltb y (x + t + 1)) ys (λ y e. lt-ltb y (x + t + 1) (omega (arith, leb-false (x - t) y (not-true _ e)))),
+      )
+
+  -- from the two ends and in the window
+  pub reached-around : together (length ys) (below-limit ys f) (from-limit ys (suc q - s)) (length ys - from-limit ys (x - t)) (below-limit ys (x + t + 1)) ≡ reached q f s true t x ys
+  unfolding reached isReached together
+  reached-around =
+      sym (cover-list ys (λ y. ltb y f) (λ y. ltb (q - y) s) (λ y. leb (difference x y) t) (below-limit ys f) (from-limit ys (suc q - s)) (length ys - from-limit ys (x - t)) (below-limit ys (x + t + 1))
+      window-opens (below-first ys rising f) second-last
+      (λ k h. in-window x (getD ys k 0) t ∙ ap₂ _&&_ (from-last ys rising (x - t) k h) (below-first ys rising (x + t + 1) k h)))
+
+-- what the look-ups ask of a run
+module _ (q : ℕ) (ys near-first near-second : List ℕ) (run : Run q ys near-first near-second) where
+  pub look-first : (Rising ys × (length near-first ≡ length ys)) × ((k : ℕ) → k < length ys → getD near-first k 0 ≡ atMost ys (getD ys k 0))
+  look-first = ((run .rising, run .first-length), stored-first q ys near-first near-second (run .on-edge) (run .stored))
+
+  pub look-second : (Rising ys × (length near-second ≡ length ys)) × ((k : ℕ) → k < length ys → getD near-second k 0 ≡ atLeast ys (getD ys k 0))
+  look-second = ((run .rising, run .second-length), stored-second q ys near-first near-second (run .on-edge) (run .stored))

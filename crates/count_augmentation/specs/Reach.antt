@@ -1,0 +1,41 @@
+-- How far an event reaches along another edge, and which of that edge's offsets it reaches: cited by inner functions alone.
+-- A reach is 0 where nothing is reached, else one more than the greatest gap that is.
+use mathlib.Core.Bool.{Bool, cond, _&&_, _||_}
+use mathlib.Core.List.{List}
+use mathlib.Core.Path.{_≡_}
+use Prim.Native.Nat.{ℕ, suc, pred, _+_, _-_, _≤_, min, max}
+use lib.Dec.{eqb, leb, ltb}
+use lib.ListN.{length}
+use Rattle.model.specs.Counting.{countIf}
+use Rattle.model.specs.Distance.{difference}
+use Rattle.model.specs.Limits.{maxEvents, maxLength}
+use Rattle.count_augmentation.specs.Storing.{Rising, OnEdge, NumbersStored}
+
+-- by one end: a is the gap to it, and the entry is the code of the distance from it
+unfoldable pub reachOf : ℕ → ℕ → ℕ → ℕ
+reachOf t a entry = cond (eqb entry 0) 0 (suc t - (a + pred entry))
+
+-- by both ends of an edge of length p, from the offset x
+unfoldable pub farthest : ℕ → ℕ → ℕ → ℕ → ℕ → ℕ
+farthest t p x by-first by-second = max (reachOf t x by-first) (reachOf t (p - x) by-second)
+
+-- the offset y of an edge of length q is reached from an end, or lies in the window around x on its own edge
+unfoldable pub isReached : ℕ → ℕ → ℕ → Bool → ℕ → ℕ → ℕ → Bool
+isReached q to-first to-second own t x y = (ltb y to-first || ltb (q - y) to-second) || (own && leb (difference x y) t)
+
+unfoldable pub reached : ℕ → ℕ → ℕ → Bool → ℕ → ℕ → List ℕ → ℕ
+reached q to-first to-second own t x ys = countIf (isReached q to-first to-second own t x) ys
+
+-- the rising offsets of an edge of length q, with their stored numbers
+pub record Run (q : ℕ) (ys near-first near-second : List ℕ) : Type 0 where
+  pub rising : Rising ys
+  pub on-edge : OnEdge q ys
+  pub few : length ys ≤ maxEvents
+  pub short : q ≤ maxLength
+  pub first-length : length near-first ≡ length ys
+  pub second-length : length near-second ≡ length ys
+  pub stored : NumbersStored q ys near-first near-second
+
+-- of n places the first p, the last q, and those from below on up to before upto: the overlaps counted once
+unfoldable pub together : ℕ → ℕ → ℕ → ℕ → ℕ → ℕ
+together n p q below upto = n - (min below (n - q) - p) - ((n - q) - max upto p)

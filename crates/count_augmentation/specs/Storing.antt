@@ -1,0 +1,42 @@
+-- What the functions that make the stored numbers and look them up keep: cited by inner functions alone.
+use mathlib.Core.List.{List}
+use mathlib.Core.Path.{_≡_}
+use Prim.Native.Nat.{ℕ, suc, _≤_, _<_}
+use lib.Dec.{leb}
+use lib.ListN.{length, getD}
+use Rattle.model.specs.Counting.{countIf}
+use Rattle.model.specs.Limits.{maxEvents}
+use Rattle.model.specs.Location.{at-first, at-second}
+use Rattle.count_augmentation.specs.Augmented.{noFarther}
+
+-- no offset is below one before it
+pub record Rising (xs : List ℕ) : Type 0 where
+  pub up : (j k : ℕ) → j ≤ k → k < length xs → getD xs j 0 ≤ getD xs k 0
+
+-- how many offsets are at most x, and how many at least x
+unfoldable pub atMost : List ℕ → ℕ → ℕ
+atMost xs x = countIf (λ y. leb y x) xs
+
+unfoldable pub atLeast : List ℕ → ℕ → ℕ
+atLeast xs x = countIf (λ y. leb x y) xs
+
+-- no offset is beyond an edge of length p
+pub record OnEdge (p : ℕ) (xs : List ℕ) : Type 0 where
+  pub on : (k : ℕ) → k < length xs → getD xs k 0 ≤ p
+
+-- rising offsets of one edge, and as much room for each list of numbers
+pub record Storable (xs near : List ℕ) : Type 0 where
+  pub rising : Rising xs
+  pub few : length xs ≤ maxEvents
+  pub room : length near ≡ length xs
+
+-- the stored numbers of the events on an edge of length p
+pub record NumbersStored (p : ℕ) (xs near-first near-second : List ℕ) : Type 0 where
+  pub first-at : (k : ℕ) → k < length xs → getD near-first k 0 ≡ noFarther p at-first xs (getD xs k 0)
+  pub second-at : (k : ℕ) → k < length xs → getD near-second k 0 ≡ noFarther p at-second xs (getD xs k 0)
+
+-- a place parts rising offsets at a limit
+pub record Parted (xs : List ℕ) (limit place : ℕ) : Type 0 where
+  pub within : place ≤ length xs
+  pub before : (k : ℕ) → k < place → getD xs k 0 < limit
+  pub after : (k : ℕ) → place ≤ k → k < length xs → limit ≤ getD xs k 0

@@ -1,0 +1,154 @@
+// How many events of one run lie in reach of the events of another.
+ghost use mathlib.Core.Bool.{true};
+ghost use mathlib.Core.List.{List};
+ghost use mathlib.Core.Path.{_≡_};
+ghost use Prim.Native.Nat.{ℕ, suc, pred, _+_, _*_, _≤_, _<_};
+ghost use lib.ListN.{length, getD};
+ghost use Rattle.model.specs.Network.{network, edges};
+ghost use Rattle.count_augmentation.specs.Pairs.{edgePair, EndTable, reachedBy, reachedPairs, TwoRuns, RunAt, runPairs};
+ghost use Rattle.count_augmentation.specs.Reach.{Run};
+use crate::number::wide;
+use crate::reach::count_reached;
+use crate::reach::reach;
+use crate::reach::reach_by;
+
+// Two edges: their lengths, the table entries from each end of the one to each end of the other, and whether they are one edge.
+pub struct EdgePair {
+    pub size: u32,
+    pub other: u32,
+    pub firsts: u32,
+    pub onward: u32,
+    pub back: u32,
+    pub seconds: u32,
+    pub same: bool,
+}
+
+// The table entry of two nodes.
+fn entry(nodes: u32, table: &[u32], u: u32, v: u32) -> u32
+    requires { ⌜ (1 ≤ u) × (u ≤ nodes) × (1 ≤ v) × (v ≤ nodes) × (nodes ≤ 512) × (nodes * nodes ≤ length (now table)) ⌝ }
+    ensures { λ r. ⌜ r ≡ getD (now (table .entry)) (pred u * nodes + pred v) 0 ⌝ }
+{
+    table[(u as usize - 1) * (nodes as usize) + (v as usize - 1)]
+}
+
+// Two edges by their indices.
+fn edge_pair(
+    nodes: u32,
+    firsts: &[u32],
+    seconds: &[u32],
+    lengths: &[u32],
+    table: &[u32],
+    i: usize,
+    j: usize,
+) -> EdgePair
+    requires { ⌜ EndTable (network nodes (now firsts) (now seconds) (now lengths)) (now table) ⌝ }
+    requires { ⌜ (i < length (now lengths)) × (j < length (now lengths)) ⌝ }
+    ensures { λ r. ⌜ r ≡ edgePair (network nodes (now (firsts .entry)) (now (seconds .entry)) (now (lengths .entry))) (now (table .entry)) i j ⌝ }
+{
+    let first = firsts[i];
+    let second = seconds[i];
+    let other_first = firsts[j];
+    let other_second = seconds[j];
+    EdgePair {
+        size: lengths[i],
+        other: lengths[j],
+        firsts: entry(nodes, table, first, other_first),
+        onward: entry(nodes, table, first, other_second),
+        back: entry(nodes, table, second, other_first),
+        seconds: entry(nodes, table, second, other_second),
+        same: i == j,
+    }
+}
+
+// No route between two edges is within the threshold: their events need not be looked at.
+fn is_beyond(g: EdgePair, threshold: u32) -> bool
+    ensures { λ r. ⌜ (r ≡ true → (x : ℕ) (ys : List ℕ) → reachedBy g threshold x ys ≡ 0) ⌝ }
+{
+    if g.same {
+        return false;
+    }
+    if 0 < reach_by(threshold, 0, g.firsts) {
+        return false;
+    }
+    if 0 < reach_by(threshold, 0, g.onward) {
+        return false;
+    }
+    if 0 < reach_by(threshold, 0, g.back) {
+        return false;
+    }
+    reach_by(threshold, 0, g.seconds) == 0
+}
+
+// For each event of a run on the first edge, how many of a run on the second it reaches.
+fn count_run(
+    g: EdgePair,
+    threshold: u32,
+    from_offsets: &[u32],
+    offsets: &[u32],
+    near_first: &[u32],
+    near_second: &[u32],
+) -> u64
+    requires { ⌜ TwoRuns g (now «from_offsets») (now offsets) (now «near_first») (now «near_second») ⌝ }
+    ensures { λ r. ⌜ (r ≡ reachedPairs g threshold (now («from_offsets» .entry)) (now (offsets .entry))) × (r ≤ 67108864) ⌝ }
+{
+    if is_beyond(g, threshold) {
+        return 0;
+    }
+    let mut total = 0;
+    let mut i = 0;
+    while i < from_offsets.len() {
+        total += count_event(
+            g,
+            threshold,
+            from_offsets[i],
+            offsets,
+            near_first,
+            near_second,
+        );
+        i += 1;
+    }
+    total
+}
+
+// How many of a run on the second edge an event on the first reaches.
+fn count_event(
+    g: EdgePair,
+    threshold: u32,
+    offset: u32,
+    offsets: &[u32],
+    near_first: &[u32],
+    near_second: &[u32],
+) -> u64
+    requires { ⌜ (offset ≤ g .size) × Run (g .other) (now offsets) (now «near_first») (now «near_second») ⌝ }
+    ensures { λ r. ⌜ (r ≡ reachedBy g threshold offset (now (offsets .entry))) × (r ≤ 8192) ⌝ }
+{
+    let to_first = reach(threshold, g.size, offset, g.firsts, g.back);
+    let to_second = reach(threshold, g.size, offset, g.onward, g.seconds);
+    count_reached(
+        offsets,
+        near_first,
+        near_second,
+        g.other,
+        to_first,
+        to_second,
+        g.same,
+        threshold,
+        offset,
+    )
+}
+
+// The place at which a run begins, or the one before it ends.
+pub(crate) fn bound(bounds: &[u32], r: usize) -> usize
+    requires { ⌜ r < length (now bounds) ⌝ }
+    ensures { λ n. ⌜ n ≡ getD (now (bounds .entry)) r 0 ⌝ }
+{
+    wide(bounds[r])
+}
+
+// The index of the edge on which an event lies.
+fn edge_index(edges: &[u32], k: usize) -> usize
+    requires { ⌜ (k < length (now edges)) × (1 ≤ getD (now edges) k 0) ⌝ }
+    ensures { λ r. ⌜ r ≡ pred (getD (now (edges .entry)) k 0) ⌝ }
+{
+    wide(edges[k]) - 1
+}

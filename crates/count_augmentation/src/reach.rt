@@ -1,0 +1,130 @@
+// How many events of a run one event reaches.
+ghost use mathlib.Core.Bool.{true, false};
+ghost use mathlib.Core.Path.{_≡_};
+ghost use Prim.Native.Nat.{_≤_};
+ghost use Rattle.count_augmentation.specs.Reach.{reachOf, farthest, reached, Run, together};
+use crate::look_up::count_below;
+use crate::look_up::count_from;
+use crate::number::greater;
+use crate::number::less;
+use crate::number::lesser;
+
+// The reach by one end: a gap, and the entry of a distance.
+pub(crate) fn reach_by(threshold: u32, gap: u32, entry: u32) -> u64
+    ensures { λ r. ⌜ r ≡ reachOf threshold gap entry ⌝ }
+{
+    if entry == 0 {
+        return 0;
+    }
+    less(threshold as u64 + 1, gap as u64 + (entry - 1) as u64)
+}
+
+// The greater of the reaches by both ends of the event's edge.
+pub(crate) fn reach(threshold: u32, size: u32, offset: u32, by_first: u32, by_second: u32) -> u64
+    requires { ⌜ offset ≤ size ⌝ }
+    ensures { λ r. ⌜ r ≡ farthest threshold size offset «by_first» «by_second» ⌝ }
+{
+    greater(
+        reach_by(threshold, offset, by_first),
+        reach_by(threshold, size - offset, by_second),
+    )
+}
+
+// Of so many places the first, the last and a window, the overlaps taken off.
+fn union(places: u64, first: u64, last: u64, below: u64, upto: u64) -> u64
+    ensures { λ r. ⌜ r ≡ together places first last below upto ⌝ }
+{
+    let rest = less(places, last);
+    let before_window = less(lesser(below, rest), first);
+    let behind_window = less(rest, greater(upto, first));
+    less(less(places, before_window), behind_window)
+}
+
+// On another edge: from its two ends. Nothing is looked up where neither is within reach.
+fn count_by_ends(
+    offsets: &[u32],
+    near_first: &[u32],
+    near_second: &[u32],
+    size: u32,
+    to_first: u64,
+    to_second: u64,
+    threshold: u32,
+    offset: u32,
+) -> u64
+    requires { ⌜ Run size (now offsets) (now «near_first») (now «near_second») ⌝ }
+    ensures { λ r. ⌜ r ≡ reached size «to_first» «to_second» false threshold offset (now (offsets .entry)) ⌝ }
+{
+    if to_first == 0 {
+        if to_second == 0 {
+            return 0;
+        }
+    }
+    let first = count_below(offsets, near_first, to_first) as u64;
+    let last = count_from(offsets, near_second, less(size as u64 + 1, to_second)) as u64;
+    union(offsets.len() as u64, first, last, first, first)
+}
+
+// On the event's own edge: from the two ends, and in the window around it.
+fn count_around(
+    offsets: &[u32],
+    near_first: &[u32],
+    near_second: &[u32],
+    size: u32,
+    to_first: u64,
+    to_second: u64,
+    threshold: u32,
+    offset: u32,
+) -> u64
+    requires { ⌜ Run size (now offsets) (now «near_first») (now «near_second») ⌝ }
+    ensures { λ r. ⌜ r ≡ reached size «to_first» «to_second» true threshold offset (now (offsets .entry)) ⌝ }
+{
+    let places = offsets.len() as u64;
+    let first = count_below(offsets, near_first, to_first) as u64;
+    let last = count_from(offsets, near_second, less(size as u64 + 1, to_second)) as u64;
+    let from_window = count_from(
+        offsets,
+        near_second,
+        less(offset as u64, threshold as u64),
+    ) as u64;
+    let upto = count_below(offsets, near_first, offset as u64 + threshold as u64 + 1) as u64;
+    union(places, first, last, less(places, from_window), upto)
+}
+
+// How many offsets of a run an event reaches, its own included.
+pub(crate) fn count_reached(
+    offsets: &[u32],
+    near_first: &[u32],
+    near_second: &[u32],
+    size: u32,
+    to_first: u64,
+    to_second: u64,
+    own: bool,
+    threshold: u32,
+    offset: u32,
+) -> u64
+    requires { ⌜ Run size (now offsets) (now «near_first») (now «near_second») ⌝ }
+    ensures { λ r. ⌜ r ≡ reached size «to_first» «to_second» own threshold offset (now (offsets .entry)) ⌝ }
+{
+    if own {
+        return count_around(
+            offsets,
+            near_first,
+            near_second,
+            size,
+            to_first,
+            to_second,
+            threshold,
+            offset,
+        );
+    }
+    count_by_ends(
+        offsets,
+        near_first,
+        near_second,
+        size,
+        to_first,
+        to_second,
+        threshold,
+        offset,
+    )
+}

@@ -1,0 +1,74 @@
+// The stored numbers of the events on one edge, of rising offsets.
+ghost use mathlib.Core.Path.{_≡_};
+ghost use Prim.Native.Nat.{ℕ, suc, pred, _≤_, _<_};
+ghost use lib.ListN.{length, getD};
+ghost use Rattle.count_augmentation.specs.Storing.{Rising, atMost, atLeast, OnEdge, Storable, NumbersStored};
+
+// How many are at most the offset at a place, from that of the next place: equal offsets share their number.
+fn next_at_most(offsets: &[u32], k: usize, later: u32) -> u32
+    requires { ⌜ Rising (now offsets) × (k < length (now offsets)) × (length (now offsets) ≤ 8192) ⌝ }
+    requires { ⌜ (suc k < length (now offsets) → later ≡ atMost (now offsets) (getD (now offsets) (suc k) 0)) ⌝ }
+    ensures { λ r. ⌜ r ≡ atMost (now (offsets .entry)) (getD (now (offsets .entry)) k 0) ⌝ }
+{
+    let next = k + 1;
+    if next == offsets.len() {
+        return next as u32;
+    }
+    if offsets[next] == offsets[k] {
+        return later;
+    }
+    next as u32
+}
+
+// How many are at least the offset at a place, from that of the place before.
+fn next_at_least(offsets: &[u32], k: usize, earlier: u32) -> u32
+    requires { ⌜ Rising (now offsets) × (k < length (now offsets)) × (length (now offsets) ≤ 8192) ⌝ }
+    requires { ⌜ (0 < k → earlier ≡ atLeast (now offsets) (getD (now offsets) (pred k) 0)) ⌝ }
+    ensures { λ r. ⌜ r ≡ atLeast (now (offsets .entry)) (getD (now (offsets .entry)) k 0) ⌝ }
+{
+    let rest = offsets.len() - k;
+    if k == 0 {
+        return rest as u32;
+    }
+    if offsets[k - 1] == offsets[k] {
+        return earlier;
+    }
+    rest as u32
+}
+
+// With each event, how many lie no farther from the first end: one pass from the back.
+fn store_first(offsets: &[u32], near: &mut [u32])
+    requires { ⌜ Storable (now offsets) (now near) ⌝ }
+    ensures { λ _. ⌜ ((k : ℕ) → k < length (now (offsets .entry)) → getD (now (near .exit)) k 0 ≡ atMost (now (offsets .entry)) (getD (now (offsets .entry)) k 0)) ⌝ }
+{
+    let mut number = 0;
+    let mut k = offsets.len();
+    while 0 < k {
+        k -= 1;
+        number = next_at_most(offsets, k, number);
+        near[k] = number;
+    }
+}
+
+// With each event, how many lie no farther from the second end: one pass from the front.
+fn store_second(offsets: &[u32], near: &mut [u32])
+    requires { ⌜ Storable (now offsets) (now near) ⌝ }
+    ensures { λ _. ⌜ ((k : ℕ) → k < length (now (offsets .entry)) → getD (now (near .exit)) k 0 ≡ atLeast (now (offsets .entry)) (getD (now (offsets .entry)) k 0)) ⌝ }
+{
+    let mut number = 0;
+    let mut k = 0;
+    while k < offsets.len() {
+        number = next_at_least(offsets, k, number);
+        near[k] = number;
+        k += 1;
+    }
+}
+
+// The stored numbers of the events on one edge, whatever its length.
+pub(crate) fn store(offsets: &[u32], near_first: &mut [u32], near_second: &mut [u32])
+    requires { ⌜ Storable (now offsets) (now «near_first») × Storable (now offsets) (now «near_second») ⌝ }
+    ensures { λ _. ⌜ ((p : ℕ) → OnEdge p (now (offsets .entry)) → NumbersStored p (now (offsets .entry)) (now («near_first» .exit)) (now («near_second» .exit))) ⌝ }
+{
+    store_first(offsets, near_first);
+    store_second(offsets, near_second);
+}

@@ -1,0 +1,9 @@
+-- One file to a concept.
+pub mod Nearest
+pub mod Moving
+pub mod OneWay
+pub mod Step
+pub mod Positions
+pub mod Kinds
+pub mod Marks
+pub mod Six

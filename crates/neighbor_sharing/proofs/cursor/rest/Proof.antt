@@ -1,0 +1,16 @@
+-- Falling or rising.
+use Rattle.neighbor_sharing.specs.Cursors.{rest}
+use Rattle.neighbor_sharing.specs.Sweeping.{resting, sideOf}
+use Rattle.neighbor_sharing.proofs.cursor.rest.Statement.{statement}
+use Rattle.neighbor_sharing.proofs.cursor.rest.Tie as tie
+
+returns : tie.Need-returns
+unfolding resting sideOf rest
+returns c = simp (c .if1 .taken)
+
+returns-2 : tie.Need-returns-2
+unfolding resting sideOf rest
+returns-2 c = simp (c .if1 .left)
+
+pub rest-spec : {M : Type 1} → statement M
+rest-spec = tie.close (tie.spec returns returns-2)

@@ -1,0 +1,5 @@
+-- The cursors of the sweep (01: marks), and what the public functions promise of them.
+pub mod Cursors
+pub mod Sweeping
+pub mod Answers
+pub mod Six

@@ -1,0 +1,3 @@
+// Neighbour sharing: pair counts by cursors that are moved and never searched anew.
+mod cursor;
+mod sweep;

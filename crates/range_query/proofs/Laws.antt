@@ -1,0 +1,13 @@
+-- Laws of the tally, of the metres and of pairs counted once.
+pub mod Between
+pub mod Tally
+pub mod Steps
+pub mod Ways
+pub mod Table
+pub mod Blocks
+pub mod Runs
+pub mod Meeting
+pub mod Looping
+pub mod Halves
+pub mod Routes
+pub mod Answers

@@ -1,0 +1,119 @@
+-- The runs of a set: each with those up to itself, and all of them.
+use mathlib.Core.Bool.{Bool, true, false, cond}
+use mathlib.Core.List.{List}
+use mathlib.Core.Path.{_≡_, refl, sym, ap, ap₂, subst, _∙_}
+use Prim.Native.Nat.{ℕ, zero, suc, pred, _+_, _-_, _*_, _≤_, _<_, min}
+use native.Mathlib.Nat.{mul-le-mul-left, mul-le-mul-right, mul-add, add-mul, le-trans}
+use native.Mathlib.Numerals.{add-one}
+use native.Mathlib.Omega.{arith}
+use borrow.Author.Tests.{lt-leb}
+use lib.Dec.{leb}
+use lib.ListN.{length, getD}
+use Rattle.model.specs.Counting.{one-if}
+use Rattle.model.specs.Distance.{difference}
+use Rattle.model.specs.Limits.{maxEvents}
+use Rattle.model.specs.Network.{Network, size}
+use Rattle.model.proofs.Laws.Pieces.{rise}
+use Rattle.range_query.specs.Metres.{Ways, far, edgePair, meet, metres, metresAt, toFirst, toSecond, placeOn}
+use Rattle.range_query.specs.Runs.{Apart, Block, Held, Placed, RunsOf, Ready, pairsWithin, pairsFrom, blockMetres}
+use Rattle.range_query.specs.Tally.{Steps, Added, Room, sumBetween}
+use Rattle.range_query.specs.declared.metres.EdgePair.{EdgePair}
+use Rattle.range_query.proofs.Laws.Between.{between-none, between-more, between-cong, between-add, between-zero, between-join}
+use Rattle.range_query.proofs.Laws.Tally.{added-none, added-then, added-as}
+
+-- pairs by measures that agree on them
+pub pairs-cong : (m m′ : ℕ → ℕ → ℕ) (a b c d t : ℕ) → ((i j : ℕ) → a ≤ i → i < b → c ≤ j → j < d → m i j ≡ m′ i j) → pairsWithin m a b c d t ≡ pairsWithin m′ a b c d t
+unfolding pairsWithin
+pairs-cong m m′ a b c d t same =
+    between-cong a b _ _ (λ i f l. between-cong c (min d i) _ _ (λ j g k. ap (λ x. one-if (leb x t)) (same i j f l g (omega arith))))
+
+-- pairs none of which is within t
+pub pairs-none : (m : ℕ → ℕ → ℕ) (a b c d t : ℕ) → ((i j : ℕ) → a ≤ i → i < b → c ≤ j → j < d → t < m i j) → pairsWithin m a b c d t ≡ 0
+unfolding pairsWithin one-if
+pairs-none m a b c d t beyond =
+    between-zero a b _ (λ i f l. between-zero c (min d i) _ (λ j g k. ap one-if (lt-leb (m i j) t (beyond i j f l g (omega arith)))))
+
+-- with one stretch of earlier places after another
+pub pairs-join : (m : ℕ → ℕ → ℕ) (a b c d e t : ℕ) → c ≤ d → d ≤ e → d ≤ a → pairsWithin m a b c d t + pairsWithin m a b d e t ≡ pairsWithin m a b c e t
+unfolding pairsWithin
+pairs-join m a b c d e t h k l =
+    sym (between-add a b _ _) ∙ between-cong a b _ _ (λ i f g. both i f)
+  where
+    both : (i : ℕ) → a ≤ i → sumBetween c (min d i) (λ j. one-if (leb (m i j) t)) + sumBetween d (min e i) (λ j. one-if (leb (m i j) t)) ≡ sumBetween c (min e i) (λ j. one-if (leb (m i j) t))
+    both i f =
+        ap (λ n. sumBetween c n (λ j. one-if (leb (m i j) t)) + sumBetween d (min e i) (λ j. one-if (leb (m i j) t))) {x = min d i} {y = d} (omega arith)
+        ∙ sym (between-join c d (min e i) _ h (omega arith))
+
+-- with all earlier places
+pub pairs-all : (m : ℕ → ℕ → ℕ) (a b c t : ℕ) → pairsWithin m a b c b t ≡ pairsFrom m c a b t
+unfolding pairsWithin pairsFrom
+pairs-all m a b c t =
+    between-cong a b _ _ (λ i f l. ap (λ n. sumBetween c n (λ j. one-if (leb (m i j) t))) {x = min b i} {y = i} (omega arith))
+
+-- beyond the reach of every way
+pub apart-beyond : (g : EdgePair) (reach x y t : ℕ) → Ways g → Apart g reach → y ≤ g .other → t ≤ reach → t < 4294967296 → t < metres g x y
+unfolding metres meet placeOn difference
+apart-beyond g reach x y t w a on h k =
+    let p : t < toFirst g x = by-first in
+    let q : t < toSecond g x = by-second in
+    let z : placeOn g x ≡ far = simp (a .not-same) in
+    omega (arith, w .other-to)
+  where
+    by-first : t < toFirst g x
+    by-first = unfold toFirst in omega (arith, a .firsts-beyond, a .back-beyond)
+
+    by-second : t < toSecond g x
+    by-second = unfold toSecond in omega (arith, a .onward-beyond, a .seconds-beyond)
+
+module _ {net : Network} {table edges offsets bounds steps : List ℕ} {r q : ℕ} (w : Ready net table edges offsets bounds steps r q) where
+  -- the bounds rise
+  pub bounds-rise : (j k : ℕ) → r ≤ j → j ≤ k → k ≤ q → getD bounds j 0 ≤ getD bounds k 0
+  bounds-rise j k h l m =
+      subst (λ n. getD bounds j 0 ≤ getD bounds n 0) {x = j + (k - j)} {y = k} (omega arith) (rise (λ n. getD bounds n 0) j (k - j) (λ i b. let up : getD bounds (j + i) 0 < getD bounds (suc (j + i)) 0 = w .runs .rising (j + i) (omega arith) (omega arith) in omega arith))
+
+  -- some of the runs
+  pub ready-some : (r′ q′ : ℕ) → r ≤ r′ → r′ ≤ q′ → q′ ≤ q → Ready net table edges offsets bounds steps r′ q′
+  ready-some r′ q′ h l m =
+      let to : getD bounds q′ 0 ≤ getD bounds q 0 = bounds-rise q′ q (omega arith) m (omega arith) in
+      record {
+        held = w .held;
+        placed =
+            record {
+              few = omega (arith, w .placed .few);
+              edges-length = omega (arith, w .placed .edges-length);
+              offsets-length = omega (arith, w .placed .offsets-length);
+              is-event = λ k b. w .placed .is-event k (omega arith);
+            };
+        runs =
+            record {
+              in-order = l;
+              in-list = omega (arith, w .runs .in-list);
+              rising = λ k b e. w .runs .rising k (omega arith) (omega arith);
+              one-edge = λ k i b e. w .runs .one-edge k i (omega arith) (omega arith);
+            };
+        rising = w .rising;
+      }
+
+  -- a place of run k is that of an event
+  pub in-run : (k i : ℕ) → r ≤ k → k < q → i < getD bounds (suc k) 0 → i < getD bounds q 0
+  in-run k i h l b = let to : getD bounds (suc k) 0 ≤ getD bounds q 0 = bounds-rise (suc k) q (omega arith) l (omega arith) in omega arith
+
+  -- its edge is the one at which the run begins
+  pub run-edge : (k i : ℕ) → r ≤ k → k < q → getD bounds k 0 ≤ i → i < getD bounds (suc k) 0 → getD offsets i 0 ≤ size net (pred (getD edges (getD bounds k 0) 0))
+  run-edge k i h l b e =
+      let is = w .placed .is-event i (in-run k i h l e) in
+      rw (← w .runs .one-edge k i h l b e) (is .on-edge)
+
+  -- the edge at which a run begins is one of the network's
+  pub run-named : (k at e : ℕ) → r ≤ k → k < q → at ≡ getD bounds k 0 → e ≡ getD edges at 0 → (1 ≤ e) × (e - 1 < length (net .lengths))
+  run-named k at e h l begins named =
+      let up : getD bounds k 0 < getD bounds (suc k) 0 = w .runs .rising k h l in
+      let is = w .placed .is-event at (in-run k at h l (omega arith)) in
+      (rw named (is .from-one), rw named (omega (arith, is .from-one, is .to-edges)))
+
+  -- and stands in the list
+  pub run-listed : (k at : ℕ) → r ≤ k → k < q → at ≡ getD bounds k 0 → at < length edges
+  run-listed k at h l begins =
+      let up : getD bounds k 0 < getD bounds (suc k) 0 = w .runs .rising k h l in
+      let in-events : at < getD bounds q 0 = in-run k at h l (omega arith) in
+      omega (arith, w .placed .edges-length)

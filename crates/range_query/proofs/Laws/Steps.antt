@@ -1,0 +1,44 @@
+-- Looking for the first step that admits a number of metres: the steps in question halve.
+use mathlib.Core.Bool.{Bool, true, false, cond}
+use mathlib.Core.List.{List}
+use mathlib.Core.Path.{_≡_, refl, sym, ap, _∙_}
+use Prim.Native.Nat.{ℕ, zero, suc, _+_, _-_, _≤_, _<_}
+use native.Mathlib.Decide.{decLt}
+use native.Mathlib.Nat.{le-trans}
+use native.Mathlib.Omega.{arith}
+use borrow.Author.Tests.{le-leb, lt-leb, lt-ltb, le-ltb}
+use lib.Dec.{leb, ltb}
+use lib.ListN.{length, getD}
+use Rattle.range_query.specs.Tally.{Steps, Bracket, Bucket}
+
+-- before any step is looked at
+pub bracket-all : (steps : List ℕ) (d : ℕ) → Bracket steps d 0 64
+bracket-all steps d = record { fits = omega arith; passed = λ k h. omega arith; ahead = λ k h l. omega arith }
+
+-- the last of the first half steps passed or not
+pub bracket-half : (steps : List ℕ) (d pos half rest : ℕ) → Steps steps → 1 ≤ half → half ≤ suc rest → Bracket steps d pos (half + rest) → Bracket steps d (pos + cond (ltb (getD steps (pos + half - 1) 0) d) half 0) rest
+bracket-half steps d pos half rest up some few w = go (decLt (getD steps (pos + half - 1) 0) d)
+  where
+    go : Dec (getD steps (pos + half - 1) 0 < d) → Bracket steps d (pos + cond (ltb (getD steps (pos + half - 1) 0) d) half 0) rest
+    go (yes p) =
+        rw (lt-ltb (getD steps (pos + half - 1) 0) d p)
+        (record {
+          fits = omega (arith, w .fits);
+          passed = λ k h. omega (arith, up .level k (pos + half - 1) (omega arith) (omega (arith, w .fits)));
+          ahead = λ k h l. w .ahead k (omega arith) l;
+        })
+    go (no p) =
+        rw (le-ltb (getD steps (pos + half - 1) 0) d (omega arith))
+        (record {
+          fits = omega (arith, w .fits);
+          passed = λ k h. w .passed k (omega arith);
+          ahead = λ k h l. omega (arith, up .level (pos + half - 1) k (omega arith) l);
+        })
+
+-- no step left to look at
+pub bracket-found : (steps : List ℕ) (d pos : ℕ) → Bracket steps d pos 0 → Bucket steps d pos
+bracket-found steps d pos w = record { fits = omega (arith, w .fits); admits = λ k h. go k h (decLt k pos) }
+  where
+    go : (k : ℕ) → k < 64 → Dec (k < pos) → leb pos k ≡ leb d (getD steps k 0)
+    go k h (yes p) = lt-leb pos k p ∙ sym (lt-leb d (getD steps k 0) (w .passed k p))
+    go k h (no p) = le-leb pos k (omega arith) ∙ sym (le-leb d (getD steps k 0) (w .ahead k (omega arith) h))

@@ -1,0 +1,101 @@
+-- The tally: one pair more, and one addition after another.
+use mathlib.Core.Bool.{Bool, true, false}
+use mathlib.Core.List.{List}
+use mathlib.Core.Path.{_≡_, refl, sym, ap, _∙_}
+use Prim.Native.Nat.{ℕ, zero, suc, _+_, _≤_, _<_}
+use native.Mathlib.Decide.{ℕ-discrete, decLt}
+use native.Mathlib.Numerals.{add-one}
+use native.Mathlib.Omega.{arith}
+use borrow.Author.Tests.{le-leb, lt-leb, lt-ltb, le-ltb}
+use lib.Dec.{leb, ltb}
+use lib.ListN.{length, getD, set, length-set}
+use lib.Seq.{getD-set-same, getD-set-other}
+use Rattle.model.specs.Counting.{sumBelow, one-if, countBelow}
+use Rattle.model.proofs.Laws.Counting.{one-if-one}
+use Rattle.range_query.specs.Tally.{Added, Bucket, Room, upTo}
+
+-- an entry is at most the sum up to it or beyond
+pub entry-most : (buckets : List ℕ) (b k : ℕ) → b ≤ k → getD buckets b 0 ≤ upTo buckets k
+unfolding upTo sumBelow
+entry-most buckets b zero h = omega (arith, ap (λ i. getD buckets i 0) {x = b} {y = 0} (omega arith))
+entry-most buckets b (suc k) h = go (ℕ-discrete b (suc k)) (entry-most buckets b k)
+  where
+    go : Dec (b ≡ suc k) → (b ≤ k → getD buckets b 0 ≤ upTo buckets k) → getD buckets b 0 ≤ upTo buckets (suc k)
+    go (yes p) below = omega (arith, ap (λ i. getD buckets i 0) p)
+    go (no p) below = omega (arith, below (omega arith))
+
+-- a shorter sum is at most a longer one
+pub up-to-grows : (buckets : List ℕ) (j k : ℕ) → j ≤ k → upTo buckets j ≤ upTo buckets k
+unfolding upTo sumBelow
+up-to-grows buckets j zero h = omega (arith, ap (upTo buckets) {x = j} {y = 0} (omega arith))
+up-to-grows buckets j (suc k) h = go (ℕ-discrete j (suc k)) (up-to-grows buckets j k)
+  where
+    go : Dec (j ≡ suc k) → (j ≤ k → upTo buckets j ≤ upTo buckets k) → upTo buckets j ≤ upTo buckets (suc k)
+    go (yes p) below = omega (arith, ap (upTo buckets) p)
+    go (no p) below = omega (arith, below (omega arith))
+
+-- one more in one bucket, in a sum over the first n buckets
+raised : (buckets : List ℕ) (b n : ℕ) → b < length buckets → sumBelow n (λ i. getD (set buckets b (getD buckets b 0 + 1)) i 0) ≡ sumBelow n (λ i. getD buckets i 0) + one-if (ltb b n)
+unfolding sumBelow one-if
+raised buckets b zero h = simp (le-ltb b 0 (omega arith))
+raised buckets b (suc n) h = go (ℕ-discrete n b) (raised buckets b n h)
+  where
+    go : Dec (n ≡ b) → sumBelow n (λ i. getD (set buckets b (getD buckets b 0 + 1)) i 0) ≡ sumBelow n (λ i. getD buckets i 0) + one-if (ltb b n) → sumBelow (suc n) (λ i. getD (set buckets b (getD buckets b 0 + 1)) i 0) ≡ sumBelow (suc n) (λ i. getD buckets i 0) + one-if (ltb b (suc n))
+    go (yes p) below =
+        let same : getD (set buckets b (getD buckets b 0 + 1)) n 0 ≡ getD buckets n 0 + 1 = rw p (getD-set-same buckets b (getD buckets b 0 + 1) 0 h) in
+        let none : one-if (ltb b n) ≡ 0 = simp (le-ltb b n (omega arith)) in
+        let some : one-if (ltb b (suc n)) ≡ 1 = simp (lt-ltb b (suc n) (omega arith)) in
+        omega arith
+    go (no p) below =
+        let same : getD (set buckets b (getD buckets b 0 + 1)) n 0 ≡ getD buckets n 0 = getD-set-other buckets b n (getD buckets b 0 + 1) 0 p in
+        let kept : one-if (ltb b (suc n)) ≡ one-if (ltb b n) = ap one-if (past (decLt b n)) in
+        omega arith
+      where
+        past : Dec (b < n) → ltb b (suc n) ≡ ltb b n
+        past (yes l) = lt-ltb b (suc n) (omega arith) ∙ sym (lt-ltb b n l)
+        past (no l) = le-ltb b (suc n) (omega arith) ∙ sym (le-ltb b n (omega arith))
+
+-- one more in one bucket
+pub up-to-raised : (buckets : List ℕ) (b k : ℕ) → b < length buckets → upTo (set buckets b (getD buckets b 0 + 1)) k ≡ upTo buckets k + one-if (leb b k)
+unfolding upTo
+up-to-raised buckets b k h = raised buckets b (suc k) h ∙ ap (λ x. upTo buckets k + one-if x) (reached (decLt k b))
+  where
+    reached : Dec (k < b) → ltb b (suc k) ≡ leb b k
+    reached (yes l) = le-ltb b (suc k) (omega arith) ∙ sym (lt-leb b k l)
+    reached (no l) = lt-ltb b (suc k) (omega arith) ∙ sym (le-leb b k (omega arith))
+
+-- nothing added
+pub added-none : (steps buckets : List ℕ) → Added steps buckets buckets 0 (λ t. 0)
+added-none steps buckets = record { tallied = λ k h. omega arith; total = omega arith; long = refl }
+
+-- one addition after another
+pub added-then : {steps old mid new : List ℕ} {m n : ℕ} {f g : ℕ → ℕ} → Added steps old mid m f → Added steps mid new n g → Added steps old new (m + n) (λ t. f t + g t)
+added-then a b =
+    record { tallied = λ k h. omega (arith, a .tallied k h, b .tallied k h); total = omega (arith, a .total, b .total); long = b .long ∙ a .long }
+
+-- the same addition in other words
+pub added-as : {steps old new : List ℕ} {m : ℕ} {f : ℕ → ℕ} (n : ℕ) (g : ℕ → ℕ) → m ≤ n → ((k : ℕ) → k < 64 → f (getD steps k 0) ≡ g (getD steps k 0)) → Added steps old new m f → Added steps old new n g
+added-as n g le same a =
+    record { tallied = λ k h. omega (arith, a .tallied k h, same k h); total = omega (arith, a .total); long = a .long }
+
+-- one pair, counted in its bucket
+pub added-one : (steps buckets : List ℕ) (d b : ℕ) → length buckets ≡ 65 → Bucket steps d b → Added steps buckets (set buckets b (getD buckets b 0 + 1)) 1 (λ t. one-if (leb d t))
+added-one steps buckets d b long w =
+    record {
+      tallied = λ k h. up-to-raised buckets b k (omega (arith, w .fits)) ∙ ap (λ x. upTo buckets k + one-if x) (w .admits k h);
+      total = omega (arith, up-to-raised buckets b 64 (omega (arith, w .fits)), one-if-one (leb b 64));
+      long = length-set buckets b (getD buckets b 0 + 1);
+    }
+
+-- one more pair of a row, whose metres are m of its number
+pub row-more : {steps old : List ℕ} (buckets : List ℕ) (m : ℕ → ℕ) (j b : ℕ) {d : ℕ} → d ≡ m j → length old ≡ 65 → Added steps old buckets j (λ t. countBelow j (λ i. leb (m i) t)) → Bucket steps d b → Added steps old (set buckets b (getD buckets b 0 + 1)) (j + 1) (λ t. countBelow (j + 1) (λ i. leb (m i) t))
+unfolding countBelow sumBelow
+row-more {steps} buckets m j b e long a w =
+    added-as (j + 1) _ (omega arith) (λ k h. sym (count-more j (λ i. leb (m i) (getD steps k 0)))) (added-then a (added-one steps buckets (m j) b (a .long ∙ long) (rw e at w)))
+  where
+    count-more : (n : ℕ) (test : ℕ → Bool) → countBelow (n + 1) test ≡ countBelow n test + one-if (test n)
+    count-more n test = simp add-one
+
+-- a bucket of a tally with room for one more can take one more
+pub takes-more : {steps old : List ℕ} (buckets : List ℕ) (b j n : ℕ) {f : ℕ → ℕ} → Room old n → j < n → Added steps old buckets j f → b ≤ 64 → getD buckets b 0 + 1 < 4294967296
+takes-more buckets b j n r l a h = omega (arith, r .room, a .total, entry-most buckets b 64 h)

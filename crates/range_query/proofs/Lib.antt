@@ -1,0 +1,2 @@
+-- Proofs of the range query.
+pub mod Laws

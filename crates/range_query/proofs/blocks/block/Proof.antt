@@ -1,0 +1,91 @@
+use borrow.Author.Count.{falls}
+use Prim.Native.Nat.{_+_, _-_, _*_, _≤_, _<_}
+use native.Mathlib.Omega.{arith}
+use borrow.Author.Needs.{needs}
+use lib.ListN.{length, getD}
+use Rattle.range_query.proofs.Laws.Blocks.{row-fits, block-more, block-none, block-done}
+use Rattle.range_query.specs.Runs.{blockMetres, pairsWithin}
+use Rattle.range_query.specs.Tally.{Added}
+use Rattle.range_query.proofs.blocks.block.Statement.{statement}
+use Rattle.range_query.proofs.blocks.block.Tie as tie
+
+abbrev Inv-loop : tie.InvT-loop
+Inv-loop g offsets from to other-from other-to steps buckets₀ other i₀ buckets i = (from ≤ i) × (i ≤ to) × Added steps buckets₀ buckets ((i - from) * (other-to - other-from)) (pairsWithin (blockMetres g offsets) from i other-from other-to)
+
+abbrev μ-loop : tie.MeasureT-loop
+μ-loop g offsets from to other-from other-to steps buckets₀ other i₀ buckets i = to - i
+
+loop-holds : tie.Need-loop-holds Inv-loop μ-loop
+loop-holds c = (omega arith, c .before .pre .0 .begins, block-none _ _ _ _ _ _)
+
+mul-wide : tie.Need-mul-wide Inv-loop μ-loop
+mul-wide c = search needs
+
+shared-slice-read-wide : tie.Need-shared-slice-read-wide Inv-loop μ-loop
+shared-slice-read-wide c = search needs
+
+wide-requires : tie.Need-wide-requires Inv-loop μ-loop
+wide-requires c κs = search needs
+
+earlier-requires : tie.Need-earlier-requires Inv-loop μ-loop
+earlier-requires c κs = search needs
+
+to-first-requires : tie.Need-to-first-requires Inv-loop μ-loop
+to-first-requires c κs = (c .before .before .before .before .before .before .pre .0 .ways, rw (c .before .wide .ensures) (c .before .before .before .before .before .before .pre .0 .on-edge _ (c .before .before .before .before .loop .inv .0) (c .before .before .before .loop-test .taken)))
+
+to-second-requires : tie.Need-to-second-requires Inv-loop μ-loop
+to-second-requires c κs = (c .before .before .before .before .before .before .before .pre .0 .ways, rw (c .before .before .wide .ensures) (c .before .before .before .before .before .before .before .pre .0 .on-edge _ (c .before .before .before .before .before .loop .inv .0) (c .before .before .before .before .loop-test .taken)))
+
+place-on-requires : tie.Need-place-on-requires Inv-loop μ-loop
+place-on-requires c κs = search needs
+
+mul-row : tie.Need-mul-row Inv-loop μ-loop
+mul-row c = search needs
+
+sub-row : tie.Need-sub-row Inv-loop μ-loop
+sub-row c = search needs
+
+part-row-start : tie.Need-part-row-start Inv-loop μ-loop
+part-row-start c = search needs
+
+part-row-end : tie.Need-part-row-end Inv-loop μ-loop
+part-row-end c = search needs
+
+row-requires : tie.Need-row-requires Inv-loop μ-loop
+row-requires c κs = let x = c .before .before .before .before .before .before .wide .ensures in row-fits (c .before .before .before .before .before .before .before .before .before .before .before .pre .0) _ _ _ _ (c .before .before .before .before .before .before .before .before .before .before .before .pre .1) (c .before .before .before .before .before .before .before .before .before .before .before .pre .2) (c .before .before .before .before .before .before .before .before .before .loop .inv .2) (c .before .before .before .before .before .before .before .before .before .loop .inv .0) (c .before .before .before .before .before .before .before .before .loop-test .taken) (c .before .before .before .before .before .earlier .ensures) (rw x at (c .before .before .before .before .to-first .ensures)) (rw x at (c .before .before .before .to-second .ensures))
+
+add-i : tie.Need-add-i Inv-loop μ-loop
+add-i c = search needs
+
+loop-less : tie.Need-loop-less Inv-loop μ-loop
+loop-less c = falls _ _ (c .before .before .before .before .before .before .before .before .before .loop-test .taken)
+
+loop-again : tie.Need-loop-again Inv-loop μ-loop
+loop-again c = let x = c .before .before .before .before .before .before .before .wide .ensures in (omega arith, omega arith, block-more (c .before .before .before .before .before .before .before .before .before .before .before .before .pre .0) _ _ _ _ _ (c .before .before .before .before .before .before .before .before .before .before .loop .inv .2) (c .before .before .before .before .before .before .before .before .before .before .loop .inv .0) (c .before .before .before .before .before .before .before .before .before .loop-test .taken) (c .before .before .before .before .before .before .earlier .ensures) (rw x at (c .before .before .before .before .before .to-first .ensures)) (rw x at (c .before .before .before .before .to-second .ensures)) (rw x at (c .before .before .before .place-on .ensures)) (c .row .ensures))
+
+returns : tie.Need-returns Inv-loop μ-loop
+returns c = block-done _ _ _ _ _ _ (omega arith) (c .before .loop .inv .2)
+
+pub block-spec : {M : Type 1} → statement M
+block-spec =
+    tie.close
+    (tie.spec
+    Inv-loop
+    μ-loop
+    loop-holds
+    mul-wide
+    shared-slice-read-wide
+    wide-requires
+    earlier-requires
+    to-first-requires
+    to-second-requires
+    place-on-requires
+    mul-row
+    sub-row
+    part-row-start
+    part-row-end
+    row-requires
+    add-i
+    loop-less
+    loop-again
+    returns)

@@ -1,0 +1,19 @@
+use native.Mathlib.Omega.{arith}
+use Rattle.model.specs.Distance.{difference}
+use borrow.Author.Needs.{needs}
+use Rattle.range_query.proofs.metres.apart.Statement.{statement}
+use Rattle.range_query.proofs.metres.apart.Tie as tie
+
+sub-result : tie.Need-sub-result
+sub-result c = search needs
+
+returns : tie.Need-returns
+unfolding difference
+returns c = omega arith
+
+returns-2 : tie.Need-returns-2
+unfolding difference
+returns-2 c = omega arith
+
+pub apart-spec : {M : Type 1} → statement M
+apart-spec = tie.close (tie.spec sub-result returns returns-2)

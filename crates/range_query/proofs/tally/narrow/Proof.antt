@@ -1,0 +1,42 @@
+use Prim.Native.Nat.{_+_, _-_}
+use lib.Dec.{ltb}
+use lib.ListN.{getD}
+use Rattle.range_query.proofs.Laws.Steps.{bracket-half}
+use Rattle.range_query.proofs.Laws.Ways.{taken-to}
+use native.Mathlib.Omega.{arith}
+use borrow.Author.Needs.{needs}
+use Rattle.range_query.proofs.tally.narrow.Statement.{statement}
+use Rattle.range_query.proofs.tally.narrow.Tie as tie
+
+add-passed : tie.Need-add-passed
+add-passed c = search needs
+
+sub-passed : tie.Need-sub-passed
+sub-passed c = search needs
+
+mul-passed : tie.Need-mul-passed
+mul-passed c = search needs
+
+element-copy-out-passed : tie.Need-element-copy-out-passed
+element-copy-out-passed c = search needs
+
+passed-requires : tie.Need-passed-requires
+passed-requires c κs = search needs
+
+add-result : tie.Need-add-result
+add-result c = let e = taken-to (ltb (getD (c .before .before .args .steps .now) (c .before .before .args .pos + c .before .before .args .half - 1) 0) (c .before .before .args .d)) (c .before .before .args .half) in omega (arith, c .passed .ensures)
+
+returns : tie.Need-returns
+returns c = λ rest few w. rw (c .passed .ensures) (bracket-half _ _ _ _ rest (c .before .before .pre .0) (c .before .before .pre .1) few w)
+
+pub narrow-spec : {M : Type 1} → statement M
+narrow-spec =
+    tie.close
+    (tie.spec
+    add-passed
+    sub-passed
+    mul-passed
+    element-copy-out-passed
+    passed-requires
+    add-result
+    returns)

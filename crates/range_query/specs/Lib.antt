@@ -1,0 +1,4 @@
+-- The range query: the metres between two events from the ways between their edges' ends, and the tally by thresholds.
+pub mod Metres
+pub mod Tally
+pub mod Runs

@@ -1,0 +1,69 @@
+-- A tally of pairs by the first threshold that admits them. The thresholds are spread over as many steps as there may be thresholds;
+-- the last bucket is for what no step admits.
+use mathlib.Core.List.{List}
+use mathlib.Core.Path.{_≡_}
+use Prim.Native.Nat.{ℕ, zero, suc, _+_, _-_, _≤_, _<_, min, _*_}
+use lib.Dec.{leb}
+use lib.ListN.{length, getD}
+use Rattle.model.specs.Counting.{sumBelow}
+use Rattle.model.specs.Limits.{maxThresholds}
+
+-- the sum of f over the numbers from a up to before b
+unfoldable pub sumBetween : ℕ → ℕ → (ℕ → ℕ) → ℕ
+sumBetween a b f = sumBelow (b - a) (λ k. f (a + k))
+
+-- the steps do not fall, and are thresholds
+pub record Steps (steps : List ℕ) : Type 0 where
+  pub level : (j k : ℕ) → j ≤ k → k < maxThresholds → getD steps j 0 ≤ getD steps k 0
+  pub small : (k : ℕ) → k < maxThresholds → getD steps k 0 < 4294967296
+
+-- the thresholds, the greatest repeated behind them
+pub record Spread (ts steps : List ℕ) : Type 0 where
+  pub long : length steps ≡ maxThresholds
+  pub at : (k : ℕ) → k < maxThresholds → getD steps k 0 ≡ getD ts (min k (length ts - 1)) 0
+  pub small : (k : ℕ) → k < maxThresholds → getD steps k 0 < 4294967296
+
+-- the first step that admits d is among the n from place pos on, or comes right behind them
+pub record Bracket (steps : List ℕ) (d pos n : ℕ) : Type 0 where
+  pub fits : pos + n ≤ maxThresholds
+  pub passed : (k : ℕ) → k < pos → getD steps k 0 < d
+  pub ahead : (k : ℕ) → pos + n ≤ k → k < maxThresholds → d ≤ getD steps k 0
+
+-- b is the number of steps that do not admit d
+pub record Bucket (steps : List ℕ) (d b : ℕ) : Type 0 where
+  pub fits : b ≤ maxThresholds
+  pub admits : (k : ℕ) → k < maxThresholds → leb b k ≡ leb d (getD steps k 0)
+
+-- the sum of the first buckets, up to number k
+unfoldable pub upTo : List ℕ → ℕ → ℕ
+upTo buckets k = sumBelow (suc k) (λ b. getD buckets b 0)
+
+-- so many pairs more, count t of them within each step t
+pub record Added (steps old new : List ℕ) (most : ℕ) (count : ℕ → ℕ) : Type 0 where
+  pub tallied : (k : ℕ) → k < maxThresholds → upTo new k ≡ upTo old k + count (getD steps k 0)
+  pub total : upTo new maxThresholds ≤ upTo old maxThresholds + most
+  pub long : length new ≡ length old
+
+-- so many pairs more can be counted
+pub record Room (buckets : List ℕ) (n : ℕ) : Type 0 where
+  pub long : length buckets ≡ suc maxThresholds
+  pub room : upTo buckets maxThresholds + n < 4294967296
+
+-- one event against a list of offsets of another edge, which lie on it
+pub record RowFits (p q other : ℕ) (ys steps buckets : List ℕ) : Type 0 where
+  pub p-to : p ≤ 2199023255552
+  pub q-to : q ≤ 2199023255552
+  pub other-to : other ≤ 4294967296
+  pub on-other : (j : ℕ) → j < length ys → getD ys j 0 ≤ other
+  pub rising : Steps steps
+  pub room : Room buckets (length ys)
+
+-- a row holds the sums of the first buckets, doubled
+pub record Doubled (buckets old new : List ℕ) : Type 0 where
+  pub long : length new ≡ length old
+  pub at : (k : ℕ) → k < length old → getD new k 0 ≡ 2 * upTo buckets k
+
+-- a row holds twice the pairs within each step
+pub record SetCounted (steps : List ℕ) (count : ℕ → ℕ) (old new : List ℕ) : Type 0 where
+  pub long : length new ≡ length old
+  pub at : (k : ℕ) → k < length old → getD new k 0 ≡ 2 * count (getD steps k 0)

@@ -1,0 +1,6 @@
+// Pair counts by a range query: for each event the others in reach, at every threshold at once.
+mod answers;
+mod blocks;
+mod metres;
+mod runs;
+mod tally;
