@@ -377,3 +377,28 @@ fn network_texts() {
     }
     met.all(&[0, 1, 2, 3, 5, 6, 7, 8, 9, 10, 11]);
 }
+
+#[test]
+fn tables_of_wanted_rows() {
+    let mut rng = Rng::new(110);
+    let mut met = Met::default();
+    for _ in 0..4_000 {
+        let damaged = rng.once_in(3);
+        let input = network(&mut rng, damaged);
+        let nodes = input.nodes.min(20) as usize;
+        let bound = rng.pick(&[0, 3, 40, u32::MAX - 1, u32::MAX], 9);
+        let wanted: Vec<u32> = (0..nodes).map(|_| u32::from(rng.once_in(2))).collect();
+        let mut table = answer_list(&mut rng, nodes * nodes);
+        let before = table.clone();
+        let told = library::end_distances(&input, bound, &wanted, &mut table);
+        met.note(&told);
+        let mut expected = before.clone();
+        if told.is_ok() {
+            for (u, _) in wanted.iter().enumerate().filter(|(_, flag)| **flag != 0) {
+                library::distances_from(&input, u as u32 + 1, bound, &mut expected[u * nodes..(u + 1) * nodes]).unwrap();
+            }
+        }
+        assert_eq!(table, expected);
+    }
+    met.all(&[0, 2, 6, 7, 8, 9]);
+}

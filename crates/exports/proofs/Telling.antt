@@ -21,7 +21,7 @@ use lib.ListN.{length}
 use Rattle.model.specs.Checks.{layoutCheck}
 use Rattle.model.specs.Network.{Network}
 use Rattle.layout.specs.Layout.{LaidOut}
-use Rattle.distance.specs.Answers.{rowCheck, RowAnswered}
+use Rattle.distance.specs.Answers.{rowCheck, RowAnswered, tableCheck, TableAnswered}
 use Rattle.readers.specs.Answers.{listAnswer, thresholdTextCheck, textThresholds, ThresholdsRead, eventTextCheck, textRows, EventsRead, networkAnswer, networkTextCheck, textNetwork, NetworkRead}
 
 -- nothing is refused
@@ -93,6 +93,10 @@ laid-out {es} {xs} {es′} {xs′} {r} {n} {p} laid told = (subst (λ v. Told v 
 -- a row answered, and its verdict told
 pub row-answered : {net : Network} {source bound : ℕ} {old new : List ℕ} {r : Check} {n p : ℕ} → RowAnswered net source bound old r new → Told r n p → Told (rowCheck net source old) n p × RowAnswered net source bound old (rowCheck net source old) new
 row-answered {net} {source} {bound} {old} {new} {r} {n} {p} row told = (subst (λ v. Told v n p) (row .verdict) told, subst (λ v. RowAnswered net source bound old v new) (row .verdict) row)
+
+-- a table answered, and its verdict told
+pub table-answered : {net : Network} {bound : ℕ} {wanted old new : List ℕ} {r : Check} {n p : ℕ} → TableAnswered net bound wanted old r new → Told r n p → Told (tableCheck net wanted old) n p × TableAnswered net bound wanted old (tableCheck net wanted old) new
+table-answered {net} {bound} {wanted} {old} {new} {r} {n} {p} table told = (subst (λ v. Told v n p) (table .verdict) told, subst (λ v. TableAnswered net bound wanted old v new) (table .verdict) table)
 
 -- thresholds read, and the answer told
 pub thresholds-read : {bytes old new : List ℕ} {a : ReadList} {r n p : ℕ} → ThresholdsRead bytes old a new → ToldWith (listVerdict a) (readOf a) r n p → ToldWith (listVerdict (listAnswer (thresholdTextCheck bytes old) (length (textThresholds bytes)))) (readOf (listAnswer (thresholdTextCheck bytes old) (length (textThresholds bytes)))) r n p × ThresholdsRead bytes old (listAnswer (thresholdTextCheck bytes old) (length (textThresholds bytes))) new

@@ -6,7 +6,7 @@ ghost use lib.ListN.{length};
 ghost use Rattle.model.specs.Checks.{layoutCheck};
 ghost use Rattle.model.specs.Network.{network};
 ghost use Rattle.layout.specs.Layout.{LaidOut};
-ghost use Rattle.distance.specs.Answers.{rowCheck, RowAnswered, nodeAnswer, boundedNodeAnswer, locationAnswer};
+ghost use Rattle.distance.specs.Answers.{rowCheck, RowAnswered, tableCheck, TableAnswered, nodeAnswer, boundedNodeAnswer, locationAnswer};
 ghost use Rattle.perimeter.specs.Answers.{perimeterAnswer};
 ghost use Rattle.readers.specs.Answers.{listAnswer, thresholdTextCheck, textThresholds, ThresholdsRead, eventTextCheck, textRows, EventsRead, networkAnswer, networkTextCheck, textNetwork, NetworkRead};
 ghost use Rattle.exports.specs.Told.{Told, ToldWith, lengthVerdict, lengthCode, boundedVerdict, boundedCode, countVerdict, countOf, listVerdict, readOf, ToldNetwork};
@@ -43,6 +43,26 @@ pub extern "C" fn kc_distances_from(
     ensures { λ _. ⌜ RowAnswered (network nodes (now (firsts .entry)) (now (seconds .entry)) (now (lengths .entry))) source bound (now (answers .entry)) (rowCheck (network nodes (now (firsts .entry)) (now (seconds .entry)) (now (lengths .entry))) source (now (answers .entry))) (now (answers .exit)) ⌝ }
 {
     let answer = distance::distances_from(nodes, firsts, seconds, lengths, source, bound, answers);
+    told::tell(answer, number, place);
+}
+
+// Rows of bounded distances from every node that is wanted (its entry of the list is not 0); the other rows stay as they were.
+#[no_mangle]
+pub extern "C" fn kc_end_distances(
+    nodes: u32,
+    firsts: &[u32],
+    seconds: &[u32],
+    lengths: &[u32],
+    bound: u32,
+    wanted: &[u32],
+    table: &mut [u32],
+    number: &mut u32,
+    place: &mut usize,
+)
+    ensures { λ _. ⌜ Told (tableCheck (network nodes (now (firsts .entry)) (now (seconds .entry)) (now (lengths .entry))) (now (wanted .entry)) (now (table .entry))) (now (number .exit)) (now (place .exit)) ⌝ }
+    ensures { λ _. ⌜ TableAnswered (network nodes (now (firsts .entry)) (now (seconds .entry)) (now (lengths .entry))) bound (now (wanted .entry)) (now (table .entry)) (tableCheck (network nodes (now (firsts .entry)) (now (seconds .entry)) (now (lengths .entry))) (now (wanted .entry)) (now (table .entry))) (now (table .exit)) ⌝ }
+{
+    let answer = distance::end_distances(nodes, firsts, seconds, lengths, bound, wanted, table);
     told::tell(answer, number, place);
 }
 

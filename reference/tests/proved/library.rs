@@ -16,6 +16,12 @@ extern "C" {
         source: u32, bound: u32, answers: *mut u32, answers_len: usize,
         number: *mut u32, place: *mut usize,
     );
+    fn kc_end_distances(
+        nodes: u32, firsts: *const u32, firsts_len: usize, seconds: *const u32, seconds_len: usize,
+        lengths: *const u32, lengths_len: usize,
+        bound: u32, wanted: *const u32, wanted_len: usize, table: *mut u32, table_len: usize,
+        number: *mut u32, place: *mut usize,
+    );
     fn kc_node_distance(
         nodes: u32, firsts: *const u32, firsts_len: usize, seconds: *const u32, seconds_len: usize,
         lengths: *const u32, lengths_len: usize,
@@ -91,6 +97,18 @@ pub fn distances_from(net: &NetworkInput, source: u32, bound: u32, answers: &mut
             net.nodes, net.firsts.as_ptr(), net.firsts.len(), net.seconds.as_ptr(), net.seconds.len(),
             net.lengths.as_ptr(), net.lengths.len(),
             source, bound, answers.as_mut_ptr(), answers.len(), number, place,
+        )
+    })
+}
+
+pub fn end_distances(net: &NetworkInput, bound: u32, wanted: &[u32], table: &mut [u32]) -> Result<(), Refusal> {
+    // SAFETY: as above.
+    told(|number, place| unsafe {
+        kc_end_distances(
+            net.nodes, net.firsts.as_ptr(), net.firsts.len(), net.seconds.as_ptr(), net.seconds.len(),
+            net.lengths.as_ptr(), net.lengths.len(),
+            bound, wanted.as_ptr(), wanted.len(), table.as_mut_ptr(), table.len(),
+            number, place,
         )
     })
 }

@@ -1,0 +1,104 @@
+//! Times the proved library beside the plain one, in one run, on the same
+//! input: the least of many turns of each, taken by turns.
+
+#[cfg(proved)]
+#[allow(dead_code)]
+#[path = "../../tests/proved/library.rs"]
+mod library;
+
+#[cfg(not(proved))]
+fn main() {
+    println!("set KC_LIB to the folder of libexports.a (rt staticlib exports) and build anew");
+}
+
+#[cfg(proved)]
+fn main() {
+    if let Err(refusal) = bench::all() {
+        println!("refused: {refusal:?}");
+    }
+}
+
+#[cfg(proved)]
+mod bench {
+    use std::hint::black_box;
+    use std::time::{Duration, Instant};
+
+    use reference::distance::{from_source, Adjacency};
+    use reference::lists::Refusal;
+    use reference::model::Network;
+    use reference::random::{self, NetworkInput, Rng};
+    use reference::text;
+
+    use crate::library;
+
+    fn once(work: &mut dyn FnMut()) -> Duration {
+        let start = Instant::now();
+        work();
+        start.elapsed()
+    }
+
+    /// Both by turns, so that a busy machine slows both alike.
+    fn beside(what: &str, turns: usize, mut proved: impl FnMut(), mut plain: impl FnMut()) {
+        let (mut a, mut b) = (Duration::MAX, Duration::MAX);
+        for _ in 0..turns {
+            a = a.min(once(&mut proved));
+            b = b.min(once(&mut plain));
+        }
+        println!(
+            "{what:<52} proved {:>9.3} ms  plain {:>9.3} ms  ratio {:.2}",
+            a.as_secs_f64() * 1e3,
+            b.as_secs_f64() * 1e3,
+            a.as_secs_f64() / b.as_secs_f64()
+        );
+    }
+
+    fn distances(what: &str, input: &NetworkInput) -> Result<(), Refusal> {
+        let network = Network::new(input.nodes, &input.firsts, &input.seconds, &input.lengths)?;
+        let nodes = input.nodes as usize;
+        let (wanted, mut table) = (vec![1; nodes], vec![0; nodes * nodes]);
+        beside(
+            what,
+            40,
+            || {
+                let _ = black_box(library::end_distances(input, u32::MAX, &wanted, &mut table));
+            },
+            || {
+                let adjacency = Adjacency::new(&network);
+                for source in 1..=input.nodes {
+                    let _ = black_box(from_source(&adjacency, source));
+                }
+            },
+        );
+        Ok(())
+    }
+
+    pub fn all() -> Result<(), Refusal> {
+        let mut rng = Rng::new(2026);
+        let ring = random::ring_network(&mut rng, 512, 1_024, 1_000);
+        distances("all nodes from all nodes, ring and chords", &ring)?;
+        distances("all nodes from all nodes, ring, legs to 1,000,000", &random::ring_network(&mut rng, 512, 1_024, 1_000_000))?;
+        distances("all nodes from all nodes, random", &random::network_of(&mut rng, 512, 1_024, 1_000))?;
+
+        let network_text = random::stretch_gr(&random::network_text(&mut rng, &ring), 60_000);
+        let (mut f, mut s, mut l) = (vec![0; 1_024], vec![0; 1_024], vec![0; 1_024]);
+        beside(
+            "network text of 60,000 bytes",
+            200,
+            || {
+                let _ = black_box(library::read_network(&network_text, &mut f, &mut s, &mut l));
+            },
+            || drop(black_box(text::parse_network(&network_text))),
+        );
+        let reports_text = random::long_reports(&mut rng, 9, 60_000);
+        let (mut sets, mut legs, mut offsets) = (vec![0; 8_192], vec![0; 8_192], vec![0; 8_192]);
+        beside(
+            "report text of 60,000 bytes",
+            200,
+            || {
+                let _ = black_box(library::read_events(&reports_text, &ring, &mut sets, &mut legs, &mut offsets));
+            },
+            || drop(black_box(text::parse_reports(&reports_text, ring.nodes, &ring.firsts, &ring.seconds, &ring.lengths))),
+        );
+        Ok(())
+    }
+}
