@@ -3,9 +3,7 @@ use mathlib.Core.List.{List}
 use mathlib.Core.Logic.{_⊎_, inl, inr}
 use mathlib.Core.Path.{_≡_, _∙_, refl, sym, ap, subst}
 use Prim.Native.Nat.{ℕ, suc, _+_, _≤_, _<_, _/_}
-use native.Mathlib.Nat.{le-trans}
 use native.Mathlib.Omega.{arith}
-use borrow.Author.Count.{below-more}
 use lib.ListN.{length, getD}
 use Rattle.model.specs.Network.{Network, IsNode, edges, size}
 use Rattle.model.specs.Walk.{Walk, here, onward, Joins}
@@ -44,7 +42,3 @@ no-shorter {net} {source} {bound} {dist} {front} {len} s (onward {v = u} {w = w}
             waits-or-settled w (n + size net i) s
             (subst (λ (k : ℕ). 1 ≤ getD dist k 0) (arc .finishes) (f .reached))
             (omega (arith, x .exact n before, subst (λ (k : ℕ). getD dist k 0 ≤ getD dist u 0 + size net (arc .a / 2)) (arc .finishes) (f .near), ap (size net) (arc .edge)))
-
--- the nearest of the first k + 1 waiting nodes
-pub nearest-more : (dist front : List ℕ) (k best best′ : ℕ) → ((j : ℕ) → j < k → getD dist (getD front best 0) 0 ≤ getD dist (getD front j 0) 0) → getD dist (getD front best′ 0) 0 ≤ getD dist (getD front best 0) 0 → getD dist (getD front best′ 0) 0 ≤ getD dist (getD front k 0) 0 → (j : ℕ) → j < k + 1 → getD dist (getD front best′ 0) 0 ≤ getD dist (getD front j 0) 0
-nearest-more dist front k best best′ all less last = below-more (λ j. getD dist (getD front best′ 0) 0 ≤ getD dist (getD front j 0) 0) k (λ j h. le-trans less (all j h)) last

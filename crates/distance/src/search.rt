@@ -37,6 +37,7 @@ pub(crate) fn search(
     let mut picked: usize = 0;
     let stop = 'picking: loop {
         let mut best = 0;
+        let mut least: u32 = 4_294_967_295;
         let mut k = 0;
         loop {
             if k == len {
@@ -45,8 +46,10 @@ pub(crate) fn search(
                 }
                 break;
             }
-            if dist[front[k] as usize] < dist[front[best] as usize] {
+            let here = dist[front[k] as usize];
+            if here < least {
                 best = k;
+                least = here;
             }
             k += 1;
         }

@@ -3,6 +3,7 @@ use mathlib.Core.Logic.{⊎-elim}
 use mathlib.Core.Path.{_≡_, _∙_, refl, sym, ap, subst}
 use Prim.Native.Nat.{ℕ, suc, _+_, _≤_, _<_, _-_}
 use native.Mathlib.Omega.{arith}
+use borrow.Author.Count.{below-more}
 use borrow.Author.Needs.{needs}
 use lib.ListN.{length, getD, length-set}
 use Rattle.model.specs.Network.{network, IsNode}
@@ -13,7 +14,6 @@ use Rattle.distance.proofs.Offer.{few, front-has-room}
 use Rattle.distance.proofs.Picks.{start, pick}
 use Rattle.distance.proofs.Stops.{searched, searched-all}
 use Rattle.distance.proofs.Slots.{slot, reach, ready-again, chain-start, chain-next}
-use Rattle.distance.proofs.Nearest.{nearest-more}
 use Rattle.distance.proofs.Ways.{last-le, last-fixed, last-leads}
 use Rattle.distance.proofs.search.search.Statement.{statement}
 use Rattle.distance.proofs.search.search.Tie as tie
@@ -24,18 +24,23 @@ use Rattle.distance.proofs.arcs.tail_of.Reads as tail-of-reads
 use Rattle.distance.proofs.search.clip.Reads as clip-reads
 use Rattle.distance.proofs.search.offer.Reads as offer-reads
 
+not-zero : (k : ℕ) → (k ≡ 0 → ⊥) → 0 < k
+not-zero k h = omega arith
+
 abbrev Inv-loop : tie.InvT-loop
-Inv-loop nodes firsts seconds lengths last next source bound dist front len picked best₀ k₀ best k =
+Inv-loop nodes firsts seconds lengths last next source bound dist front len picked best₀ least₀ k₀ best least k =
     (k ≤ len) ×
     (0 < len → best < len) ×
-    ((j : ℕ) → j < k → getD dist (getD front best 0) 0 ≤ getD dist (getD front j 0) 0)
+    ((j : ℕ) → j < k → getD dist (getD front best 0) 0 ≤ getD dist (getD front j 0) 0) ×
+    (0 < k → least ≡ getD dist (getD front best 0) 0) ×
+    (k ≡ 0 → least ≡ 4294967295)
 
 abbrev μ-loop : tie.MeasureT-loop
-μ-loop nodes firsts seconds lengths last next source bound dist front len picked best₀ k₀ best k =
+μ-loop nodes firsts seconds lengths last next source bound dist front len picked best₀ least₀ k₀ best least k =
     len - k
 
 abbrev Inv-loop2 : tie.InvT-loop2
-Inv-loop2 nodes firsts seconds lengths last next source bound dist₀ front₀ len₀ picked best k v h₀ dist front len h =
+Inv-loop2 nodes firsts seconds lengths last next source bound dist₀ front₀ len₀ picked best least k v h₀ dist front len h =
     Ready (network nodes firsts seconds lengths) last next source dist front ×
     Following (network nodes firsts seconds lengths) source bound dist front len picked v h ×
     (lastArc firsts seconds v h ≡ h) ×
@@ -44,7 +49,7 @@ Inv-loop2 nodes firsts seconds lengths last next source bound dist₀ front₀ l
     (length front ≡ length front₀)
 
 abbrev μ-loop2 : tie.MeasureT-loop2
-μ-loop2 nodes firsts seconds lengths last next source bound dist₀ front₀ len₀ picked best k v h₀ dist front len h =
+μ-loop2 nodes firsts seconds lengths last next source bound dist₀ front₀ len₀ picked best least k v h₀ dist front len h =
     h
 
 abbrev Inv-picking : tie.InvT-picking
@@ -89,54 +94,26 @@ picking-holds c =
 
 -- src/search.rt:43:9
 loop-holds : tie.Need-loop-holds Inv-loop μ-loop Inv-loop2 μ-loop2 Inv-picking μ-picking
-loop-holds c = (search needs, λ h. h, λ j h. omega arith)
+loop-holds c = (search needs, λ h. h, λ j h. omega arith, λ h. omega arith, λ h. refl)
 
--- src/search.rt:50:21
-mul-if3 : tie.Need-mul-if3 Inv-loop μ-loop Inv-loop2 μ-loop2 Inv-picking μ-picking
-mul-if3 c = omega (arith, slot (c .before .before .picking .inv .0) (c .before .before .picking .inv .1) (c .before .loop .k) (omega arith))
+mul-here : tie.Need-mul-here Inv-loop μ-loop Inv-loop2 μ-loop2 Inv-picking μ-picking
+mul-here c = omega (arith, slot (c .before .before .picking .inv .0) (c .before .before .picking .inv .1) (c .before .loop .k) (omega arith))
 
--- src/search.rt:50:21
-slice-read-if3 : tie.Need-slice-read-if3 Inv-loop μ-loop Inv-loop2 μ-loop2 Inv-picking μ-picking
-slice-read-if3 c = omega (arith, slot (c .before .before .before .picking .inv .0) (c .before .before .before .picking .inv .1) (c .before .before .loop .k) (omega arith))
+slice-read-here : tie.Need-slice-read-here Inv-loop μ-loop Inv-loop2 μ-loop2 Inv-picking μ-picking
+slice-read-here c = omega (arith, slot (c .before .before .before .picking .inv .0) (c .before .before .before .picking .inv .1) (c .before .before .loop .k) (omega arith))
 
--- src/search.rt:50:21
-cast-if3 : tie.Need-cast-if3 Inv-loop μ-loop Inv-loop2 μ-loop2 Inv-picking μ-picking
-cast-if3 c = omega (arith, slot (c .before .before .before .picking .inv .0) (c .before .before .before .picking .inv .1) (c .before .before .loop .k) (omega arith))
+cast-here : tie.Need-cast-here Inv-loop μ-loop Inv-loop2 μ-loop2 Inv-picking μ-picking
+cast-here c = omega (arith, slot (c .before .before .before .picking .inv .0) (c .before .before .before .picking .inv .1) (c .before .before .loop .k) (omega arith))
 
--- src/search.rt:50:16
-mul-if3-2 : tie.Need-mul-if3-2 Inv-loop μ-loop Inv-loop2 μ-loop2 Inv-picking μ-picking
-mul-if3-2 c = omega (arith, slot (c .before .before .before .picking .inv .0) (c .before .before .before .picking .inv .1) (c .before .before .loop .k) (omega arith))
+mul-here-2 : tie.Need-mul-here-2 Inv-loop μ-loop Inv-loop2 μ-loop2 Inv-picking μ-picking
+mul-here-2 c = omega (arith, slot (c .before .before .before .picking .inv .0) (c .before .before .before .picking .inv .1) (c .before .before .loop .k) (omega arith))
 
--- src/search.rt:50:16
-slice-read-if3-2 :
-    tie.Need-slice-read-if3-2 Inv-loop μ-loop Inv-loop2 μ-loop2 Inv-picking μ-picking
-slice-read-if3-2 c = omega (arith, slot (c .before .before .before .before .picking .inv .0) (c .before .before .before .before .picking .inv .1) (c .before .before .before .loop .k) (omega arith))
-
--- src/search.rt:50:47
-mul-if3-3 : tie.Need-mul-if3-3 Inv-loop μ-loop Inv-loop2 μ-loop2 Inv-picking μ-picking
-mul-if3-3 c = omega (arith, slot (c .before .before .before .before .picking .inv .0) (c .before .before .before .before .picking .inv .1) (c .before .before .before .loop .best) (c .before .before .before .loop .inv .1 (omega arith)))
-
--- src/search.rt:50:47
-slice-read-if3-3 :
-    tie.Need-slice-read-if3-3 Inv-loop μ-loop Inv-loop2 μ-loop2 Inv-picking μ-picking
-slice-read-if3-3 c = omega (arith, slot (c .before .before .before .before .before .picking .inv .0) (c .before .before .before .before .before .picking .inv .1) (c .before .before .before .before .loop .best) (c .before .before .before .before .loop .inv .1 (omega arith)))
-
--- src/search.rt:50:47
-cast-if3-2 : tie.Need-cast-if3-2 Inv-loop μ-loop Inv-loop2 μ-loop2 Inv-picking μ-picking
-cast-if3-2 c = omega (arith, slot (c .before .before .before .before .before .picking .inv .0) (c .before .before .before .before .before .picking .inv .1) (c .before .before .before .before .loop .best) (c .before .before .before .before .loop .inv .1 (omega arith)))
-
--- src/search.rt:50:42
-mul-if3-4 : tie.Need-mul-if3-4 Inv-loop μ-loop Inv-loop2 μ-loop2 Inv-picking μ-picking
-mul-if3-4 c = omega (arith, slot (c .before .before .before .before .before .picking .inv .0) (c .before .before .before .before .before .picking .inv .1) (c .before .before .before .before .loop .best) (c .before .before .before .before .loop .inv .1 (omega arith)))
-
--- src/search.rt:50:42
-slice-read-if3-4 :
-    tie.Need-slice-read-if3-4 Inv-loop μ-loop Inv-loop2 μ-loop2 Inv-picking μ-picking
-slice-read-if3-4 c = omega (arith, slot (c .before .before .before .before .before .before .picking .inv .0) (c .before .before .before .before .before .before .picking .inv .1) (c .before .before .before .before .before .loop .best) (c .before .before .before .before .before .loop .inv .1 (omega arith)))
+slice-read-here-2 : tie.Need-slice-read-here-2 Inv-loop μ-loop Inv-loop2 μ-loop2 Inv-picking μ-picking
+slice-read-here-2 c = omega (arith, slot (c .before .before .before .before .picking .inv .0) (c .before .before .before .before .picking .inv .1) (c .before .before .before .loop .k) (omega arith))
 
 -- src/search.rt:53:13
 add-k : tie.Need-add-k Inv-loop μ-loop Inv-loop2 μ-loop2 Inv-picking μ-picking
-add-k c = omega (arith, slot (c .before .before .before .before .before .before .before .picking .inv .0) (c .before .before .before .before .before .before .before .picking .inv .1) (c .before .before .before .before .before .before .loop .k) (omega arith))
+add-k c = omega (arith, slot (c .before .before .before .before .before .picking .inv .0) (c .before .before .before .before .before .picking .inv .1) (c .before .before .before .before .loop .k) (omega arith))
 
 -- src/search.rt:43:9
 loop-less : tie.Need-loop-less Inv-loop μ-loop Inv-loop2 μ-loop2 Inv-picking μ-picking
@@ -145,23 +122,28 @@ loop-less c = search needs
 -- src/search.rt:43:9
 loop-again : tie.Need-loop-again Inv-loop μ-loop Inv-loop2 μ-loop2 Inv-picking μ-picking
 loop-again c =
-    let here = c .before .before .before .before .before .before .loop in
-    let s = c .before .before .before .before .before .before .before .picking in
+    let here = c .before .before .before .before .loop in
+    let s = c .before .before .before .before .before .picking in
     let entry : ℕ → ℕ = λ b. getD (s .dist) (getD (s .front) b 0) 0 in
     ⊎-elim
     (λ w. (
       omega arith,
       λ h. omega arith,
-      nearest-more (s .dist) (s .front) (here .k) (here .best) (c .if3 .best) (here .inv .2)
-          (omega (arith, w .0 .taken, ap entry (w .1)))
+      below-more (λ (j : ℕ). entry (c .if3 .best) ≤ entry j) (here .k)
+          (λ j l. omega (arith, w .0 .taken, ap entry (w .1), here .inv .3 (omega arith), here .inv .2 j l))
           (omega (arith, ap entry (w .1))),
+      λ h. w .2 ∙ sym (ap entry (w .1)),
+      λ h. omega arith,
     ))
-    (λ w. (
+    (λ w.
+    let some : 0 < here .k = not-zero (here .k) (λ z. omega (arith, here .inv .4 z, w .0 .left, s .inv .1 .small (getD (s .front) (here .k) 0), few (s .inv .1), s .inv .0 .few-nodes)) in (
       omega arith,
       λ h. omega (arith, here .inv .1 h),
-      nearest-more (s .dist) (s .front) (here .k) (here .best) (c .if3 .best) (here .inv .2)
-          (omega (arith, ap entry (w .1)))
-          (omega (arith, w .0 .left, ap entry (w .1))),
+      below-more (λ (j : ℕ). entry (c .if3 .best) ≤ entry j) (here .k)
+          (λ j l. omega (arith, ap entry (w .1), here .inv .2 j l))
+          (omega (arith, w .0 .left, ap entry (w .1), here .inv .3 some)),
+      λ h. w .2 ∙ here .inv .3 some ∙ sym (ap entry (w .1)),
+      λ h. omega arith,
     ))
     (c .if3 .came)
 
@@ -397,16 +379,11 @@ search-spec =
     slice-write-front
     picking-holds
     loop-holds
-    mul-if3
-    slice-read-if3
-    cast-if3
-    mul-if3-2
-    slice-read-if3-2
-    mul-if3-3
-    slice-read-if3-3
-    cast-if3-2
-    mul-if3-4
-    slice-read-if3-4
+    mul-here
+    slice-read-here
+    cast-here
+    mul-here-2
+    slice-read-here-2
     add-k
     loop-less
     loop-again
