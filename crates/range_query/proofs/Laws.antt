@@ -1,4 +1,5 @@
 -- Laws of the tally, of the metres and of pairs counted once.
+pub mod CountRows
 pub mod Between
 pub mod Tally
 pub mod Steps
@@ -11,3 +12,5 @@ pub mod Looping
 pub mod Halves
 pub mod Routes
 pub mod Answers
+pub mod Counted
+pub mod AllSets

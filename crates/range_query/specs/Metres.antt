@@ -1,5 +1,5 @@
 -- The metres between two events, from the ways between the ends of their edges. Where there is no way they are beyond every threshold.
-use mathlib.Core.Bool.{Bool, cond}
+use mathlib.Core.Bool.{cond}
 use mathlib.Core.List.{List}
 use Prim.Native.Nat.{ℕ, pred, _+_, _-_, _≤_, min}
 use lib.Dec.{eqb}

@@ -2,7 +2,7 @@
 use mathlib.Core.Bool.{false}
 use mathlib.Core.List.{List}
 use mathlib.Core.Path.{_≡_}
-use Prim.Native.Nat.{ℕ, suc, pred, _+_, _-_, _*_, _≤_, _<_, min}
+use Prim.Native.Nat.{ℕ, suc, _-_, _≤_, _<_, min}
 use lib.Dec.{leb}
 use lib.ListN.{length, getD}
 use Rattle.model.specs.Counting.{one-if}
@@ -77,7 +77,7 @@ pub record RunsOf (edges bounds : List ℕ) (r q : ℕ) : Type 0 where
   pub one-edge : (k i : ℕ) → r ≤ k → k < q → getD bounds k 0 ≤ i → i < getD bounds (suc k) 0 → getD edges i 0 ≡ getD edges (getD bounds k 0) 0
 
 -- everything that the loops over the runs from r up to before q read
-pub record Ready (net : Network) (table edges offsets bounds steps : List ℕ) (r q : ℕ) : Type 0 where
+pub record RunsReady (net : Network) (table edges offsets bounds steps : List ℕ) (r q : ℕ) : Type 0 where
   pub held : Held net table
   pub placed : Placed net edges offsets (getD bounds q 0)
   pub runs : RunsOf edges bounds r q

@@ -2,7 +2,7 @@
 -- the last bucket is for what no step admits.
 use mathlib.Core.List.{List}
 use mathlib.Core.Path.{_≡_}
-use Prim.Native.Nat.{ℕ, zero, suc, _+_, _-_, _≤_, _<_, min, _*_}
+use Prim.Native.Nat.{ℕ, suc, _+_, _-_, _≤_, _<_, min, _*_}
 use lib.Dec.{leb}
 use lib.ListN.{length, getD}
 use Rattle.model.specs.Counting.{sumBelow}

@@ -1,11 +1,11 @@
 // The counts of a set at every threshold, from its tally.
 ghost use mathlib.Core.Path.{_≡_};
-ghost use Prim.Native.Nat.{ℕ, _+_, _*_, _≤_, _<_};
+ghost use Prim.Native.Nat.{_*_, _≤_, _<_};
 ghost use lib.ListN.{length, getD};
 ghost use Rattle.model.specs.Limits.{maxThresholds};
 ghost use Rattle.model.specs.Network.{network};
 ghost use Rattle.range_query.specs.Metres.{metresAt};
-ghost use Rattle.range_query.specs.Runs.{Ready, pairsFrom};
+ghost use Rattle.range_query.specs.Runs.{RunsReady, pairsFrom};
 ghost use Rattle.range_query.specs.Tally.{Doubled, Spread, SetCounted, upTo};
 use crate::blocks::earlier;
 use crate::runs::set_pairs;
@@ -13,7 +13,7 @@ use crate::tally::BUCKETS;
 use crate::tally::STEPS;
 
 // Spreads the thresholds over all steps: behind the greatest it is repeated.
-pub(crate) fn spread(thresholds: &[u32], steps: &mut [u32; STEPS])
+pub fn spread(thresholds: &[u32], steps: &mut [u32; STEPS])
     requires { ⌜ (1 ≤ length (now thresholds)) × (length (now steps) ≡ maxThresholds) ⌝ }
     ensures { λ _. ⌜ Spread (now (thresholds .entry)) (now (steps .exit)) ⌝ }
 {
@@ -40,7 +40,7 @@ fn write_row(buckets: &[u32; BUCKETS], row: &mut [u32])
 }
 
 // The row of a set whose runs are those from r up to before q.
-pub(crate) fn set_row(
+pub fn set_row(
     nodes: u32,
     firsts: &[u32],
     seconds: &[u32],
@@ -54,7 +54,7 @@ pub(crate) fn set_row(
     steps: &[u32; STEPS],
     row: &mut [u32],
 )
-    requires { ⌜ Ready (network nodes (now firsts) (now seconds) (now lengths)) (now table) (now edges) (now offsets) (now bounds) (now steps) r q × (length (now row) ≤ maxThresholds) ⌝ }
+    requires { ⌜ RunsReady (network nodes (now firsts) (now seconds) (now lengths)) (now table) (now edges) (now offsets) (now bounds) (now steps) r q × (length (now row) ≤ maxThresholds) ⌝ }
     ensures { λ _. ⌜ SetCounted (now (steps .entry)) (pairsFrom (metresAt (network nodes (now (firsts .entry)) (now (seconds .entry)) (now (lengths .entry))) (now (table .entry)) (now (edges .entry)) (now (offsets .entry))) (getD (now (bounds .entry)) r 0) (getD (now (bounds .entry)) r 0) (getD (now (bounds .entry)) q 0)) (now (row .entry)) (now (row .exit)) ⌝ }
 {
     let mut buckets = [0u32; BUCKETS];

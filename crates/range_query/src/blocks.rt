@@ -1,11 +1,11 @@
 // Two runs at a time: the ways between the ends of their edges are read once, and every pair is tallied.
 ghost use mathlib.Core.Bool.{true};
 ghost use mathlib.Core.Path.{_≡_};
-ghost use Prim.Native.Nat.{suc, pred, min, _+_, _-_, _*_, _≤_, _<_};
+ghost use Prim.Native.Nat.{pred, min, _+_, _-_, _*_, _≤_, _<_};
 ghost use lib.ListN.{length, getD};
 ghost use Rattle.model.specs.Network.{network};
-ghost use Rattle.range_query.specs.Metres.{Ways, far, way, edgePair, metresAt};
-ghost use Rattle.range_query.specs.Runs.{Apart, Block, Held, Ready, TableEntry, blockMetres, pairsWithin};
+ghost use Rattle.range_query.specs.Metres.{Ways, far, way, edgePair};
+ghost use Rattle.range_query.specs.Runs.{Apart, Block, Held, TableEntry, blockMetres, pairsWithin};
 ghost use Rattle.range_query.specs.Tally.{Steps, Added, Room};
 use crate::metres::EdgePair;
 use crate::metres::lesser;
@@ -23,7 +23,7 @@ fn wide(x: u32) -> u64
     x as u64
 }
 
-pub(crate) fn earlier(a: usize, b: usize) -> usize
+pub fn earlier(a: usize, b: usize) -> usize
     ensures { λ r. ⌜ r ≡ min a b ⌝ }
 {
     if b < a { b } else { a }
@@ -38,7 +38,7 @@ fn way_between(nodes: u32, table: &[u32], u: u32, v: u32) -> u64
 }
 
 // Two edges by their indices.
-pub(crate) fn edge_pair(
+pub fn edge_pair(
     nodes: u32,
     firsts: &[u32],
     seconds: &[u32],
@@ -66,7 +66,7 @@ pub(crate) fn edge_pair(
 }
 
 // The edges are two, and none of the four ways is within the reach.
-pub(crate) fn is_apart(g: EdgePair, reach: u64) -> bool
+pub fn is_apart(g: EdgePair, reach: u64) -> bool
     ensures { λ r. ⌜ (r ≡ true → Apart g reach) ⌝ }
 {
     if g.same {
@@ -76,7 +76,7 @@ pub(crate) fn is_apart(g: EdgePair, reach: u64) -> bool
 }
 
 // Tallies every event of a run with the earlier ones of another run, or of the same.
-pub(crate) fn block(
+pub fn block(
     g: EdgePair,
     offsets: &[u32],
     from: usize,

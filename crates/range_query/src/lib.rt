@@ -3,4 +3,7 @@ mod answers;
 mod blocks;
 mod metres;
 mod runs;
+mod sets;
 mod tally;
+
+pub use sets::counts;

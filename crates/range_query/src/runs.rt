@@ -1,11 +1,11 @@
 // The pairs of one set, run by run.
 ghost use mathlib.Core.Path.{_≡_};
-ghost use Prim.Native.Nat.{suc, _+_, _-_, _*_, _≤_, _<_};
+ghost use Prim.Native.Nat.{suc, _-_, _*_, _≤_, _<_};
 ghost use lib.ListN.{length, getD};
 ghost use Rattle.model.specs.Limits.{maxEvents};
 ghost use Rattle.model.specs.Network.{network};
 ghost use Rattle.range_query.specs.Metres.{metresAt};
-ghost use Rattle.range_query.specs.Runs.{Ready, pairsWithin, pairsFrom};
+ghost use Rattle.range_query.specs.Runs.{RunsReady, pairsWithin, pairsFrom};
 ghost use Rattle.range_query.specs.Tally.{Added, Room};
 use crate::blocks::block;
 use crate::blocks::edge_pair;
@@ -15,7 +15,7 @@ use crate::tally::LAST_STEP;
 use crate::tally::STEPS;
 
 // An entry of a list as a place.
-fn place(list: &[u32], k: usize) -> usize
+pub fn place(list: &[u32], k: usize) -> usize
     requires { ⌜ k < length (now list) ⌝ }
     ensures { λ r. ⌜ r ≡ getD (now (list .entry)) k 0 ⌝ }
 {
@@ -37,7 +37,7 @@ fn meet_runs(
     steps: &[u32; STEPS],
     buckets: &mut [u32; BUCKETS],
 )
-    requires { ⌜ Ready (network nodes (now firsts) (now seconds) (now lengths)) (now table) (now edges) (now offsets) (now bounds) (now steps) b (suc a) × (b ≤ a) × Room (now buckets) ((getD (now bounds) (suc a) 0 - getD (now bounds) a 0) * (getD (now bounds) (suc b) 0 - getD (now bounds) b 0)) ⌝ }
+    requires { ⌜ RunsReady (network nodes (now firsts) (now seconds) (now lengths)) (now table) (now edges) (now offsets) (now bounds) (now steps) b (suc a) × (b ≤ a) × Room (now buckets) ((getD (now bounds) (suc a) 0 - getD (now bounds) a 0) * (getD (now bounds) (suc b) 0 - getD (now bounds) b 0)) ⌝ }
     ensures { λ _. ⌜ Added (now (steps .entry)) (now (buckets .entry)) (now (buckets .exit)) ((getD (now (bounds .entry)) (suc a) 0 - getD (now (bounds .entry)) a 0) * (getD (now (bounds .entry)) (suc b) 0 - getD (now (bounds .entry)) b 0)) (pairsWithin (metresAt (network nodes (now (firsts .entry)) (now (seconds .entry)) (now (lengths .entry))) (now (table .entry)) (now (edges .entry)) (now (offsets .entry))) (getD (now (bounds .entry)) a 0) (getD (now (bounds .entry)) (suc a) 0) (getD (now (bounds .entry)) b 0) (getD (now (bounds .entry)) (suc b) 0)) ⌝ }
 {
     let from = place(bounds, a);
@@ -68,7 +68,7 @@ fn run_pairs(
     steps: &[u32; STEPS],
     buckets: &mut [u32; BUCKETS],
 )
-    requires { ⌜ Ready (network nodes (now firsts) (now seconds) (now lengths)) (now table) (now edges) (now offsets) (now bounds) (now steps) r (suc a) × (r ≤ a) × Room (now buckets) ((getD (now bounds) (suc a) 0 - getD (now bounds) a 0) * maxEvents) ⌝ }
+    requires { ⌜ RunsReady (network nodes (now firsts) (now seconds) (now lengths)) (now table) (now edges) (now offsets) (now bounds) (now steps) r (suc a) × (r ≤ a) × Room (now buckets) ((getD (now bounds) (suc a) 0 - getD (now bounds) a 0) * maxEvents) ⌝ }
     ensures { λ _. ⌜ Added (now (steps .entry)) (now (buckets .entry)) (now (buckets .exit)) ((getD (now (bounds .entry)) (suc a) 0 - getD (now (bounds .entry)) a 0) * maxEvents) (pairsFrom (metresAt (network nodes (now (firsts .entry)) (now (seconds .entry)) (now (lengths .entry))) (now (table .entry)) (now (edges .entry)) (now (offsets .entry))) (getD (now (bounds .entry)) r 0) (getD (now (bounds .entry)) a 0) (getD (now (bounds .entry)) (suc a) 0)) ⌝ }
 {
     let mut b = r;
@@ -92,7 +92,7 @@ fn run_pairs(
 }
 
 // Every pair of a set whose runs are those from r up to before q.
-pub(crate) fn set_pairs(
+pub fn set_pairs(
     nodes: u32,
     firsts: &[u32],
     seconds: &[u32],
@@ -106,7 +106,7 @@ pub(crate) fn set_pairs(
     steps: &[u32; STEPS],
     buckets: &mut [u32; BUCKETS],
 )
-    requires { ⌜ Ready (network nodes (now firsts) (now seconds) (now lengths)) (now table) (now edges) (now offsets) (now bounds) (now steps) r q × Room (now buckets) (maxEvents * maxEvents) ⌝ }
+    requires { ⌜ RunsReady (network nodes (now firsts) (now seconds) (now lengths)) (now table) (now edges) (now offsets) (now bounds) (now steps) r q × Room (now buckets) (maxEvents * maxEvents) ⌝ }
     ensures { λ _. ⌜ Added (now (steps .entry)) (now (buckets .entry)) (now (buckets .exit)) (maxEvents * maxEvents) (pairsFrom (metresAt (network nodes (now (firsts .entry)) (now (seconds .entry)) (now (lengths .entry))) (now (table .entry)) (now (edges .entry)) (now (offsets .entry))) (getD (now (bounds .entry)) r 0) (getD (now (bounds .entry)) r 0) (getD (now (bounds .entry)) q 0)) ⌝ }
 {
     let mut a = r;

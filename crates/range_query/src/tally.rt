@@ -1,7 +1,7 @@
 // Pairs are tallied by the first threshold that admits them, with no branch and no division on the way.
 ghost use mathlib.Core.Bool.{cond};
 ghost use mathlib.Core.Path.{_≡_};
-ghost use Prim.Native.Nat.{ℕ, suc, _+_, _≤_, _<_};
+ghost use Prim.Native.Nat.{ℕ, suc, _+_, _≤_};
 ghost use lib.Dec.{leb, ltb};
 ghost use lib.ListN.{length, getD};
 ghost use Rattle.model.specs.Counting.{countBelow};
@@ -49,7 +49,7 @@ fn bucket(steps: &[u32; STEPS], d: u64) -> usize
 }
 
 // Tallies one event with every offset of a part of a run on the other edge.
-pub(crate) fn row(
+pub fn row(
     ys: &[u32],
     p: u64,
     q: u64,

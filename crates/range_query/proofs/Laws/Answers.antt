@@ -1,8 +1,8 @@
 -- Lists filled from the front, the sums of the first buckets, and the steps from the thresholds.
 use mathlib.Core.List.{List}
-use mathlib.Core.Path.{_≡_, refl, sym, ap, _∙_}
-use Prim.Native.Nat.{ℕ, zero, suc, _+_, _-_, _*_, _≤_, _<_, min}
-use native.Mathlib.Decide.{ℕ-discrete, decLt}
+use mathlib.Core.Path.{_≡_, refl, ap, _∙_}
+use Prim.Native.Nat.{ℕ, zero, suc, _+_, _-_, _≤_, _<_, min}
+use native.Mathlib.Decide.{ℕ-discrete}
 use native.Mathlib.Numerals.{add-one}
 use native.Mathlib.Omega.{arith}
 use lib.ListN.{length, getD, set, length-set, replicate}
@@ -12,7 +12,6 @@ use Rattle.model.specs.Limits.{maxThresholds}
 use Rattle.model.proofs.Laws.Checks.{ThresholdsAccepted, thresholds-rise}
 use Rattle.model.proofs.Laws.Counting.{sum-below-zero}
 use Rattle.range_query.specs.Tally.{Added, Doubled, SetCounted, Spread, Steps, upTo}
-use Rattle.range_query.proofs.Laws.Tally.{up-to-grows}
 
 -- the first n places hold what f makes of them
 pub record Filled (old new : List ℕ) (n : ℕ) (f : ℕ → ℕ) : Type 0 where

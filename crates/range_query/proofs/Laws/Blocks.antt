@@ -1,22 +1,22 @@
 -- Two runs: a row for each event, and the pairs of the rows together.
-use mathlib.Core.Bool.{Bool, true, false}
+use mathlib.Core.Bool.{Bool}
 use mathlib.Core.List.{List}
-use mathlib.Core.Path.{_≡_, refl, sym, ap, ap₂, subst, _∙_}
-use Prim.Native.Nat.{ℕ, zero, suc, pred, _+_, _-_, _*_, _≤_, _<_, min}
-use native.Mathlib.Nat.{suc-mul, mul-le-mul-right, mul-le-mul-left, mul-add}
+use mathlib.Core.Path.{_≡_, sym, ap, _∙_}
+use Prim.Native.Nat.{ℕ, suc, _+_, _-_, _*_, _≤_, _<_, min}
+use native.Mathlib.Nat.{suc-mul, mul-le-mul-right}
 use native.Mathlib.Numerals.{add-one}
 use native.Mathlib.Omega.{arith}
 use lib.Dec.{leb}
-use lib.ListN.{length, getD, take, drop, length-take, length-drop}
+use lib.ListN.{length, getD, length-take, length-drop}
 use lib.Seq.{getD-take, getD-drop}
 use Rattle.model.specs.Counting.{one-if, countBelow, sumBelow}
 use Rattle.model.proofs.Laws.Counting.{sum-below-cong}
 use Rattle.model.proofs.Laws.Pieces.{part}
-use Rattle.range_query.specs.Metres.{Ways, far, meet, metres, toFirst, toSecond, placeOn}
+use Rattle.range_query.specs.Metres.{far, meet, metres, toFirst, toSecond, placeOn}
 use Rattle.range_query.specs.Runs.{Block, pairsWithin, blockMetres}
-use Rattle.range_query.specs.Tally.{Steps, Added, Room, RowFits, sumBetween, upTo}
+use Rattle.range_query.specs.Tally.{Steps, Added, Room, RowFits, sumBetween}
 use Rattle.range_query.specs.declared.metres.EdgePair.{EdgePair}
-use Rattle.range_query.proofs.Laws.Between.{between-none, between-more, between-cong}
+use Rattle.range_query.proofs.Laws.Between.{between-none, between-more}
 use Rattle.range_query.proofs.Laws.Tally.{added-none, added-then, added-as}
 
 -- a part of a list is as long as its places say

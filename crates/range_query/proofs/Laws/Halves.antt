@@ -1,14 +1,14 @@
 -- Pairs counted once, the later event first, are half of the ordered pairs.
-use mathlib.Core.Bool.{Bool, true, false, not, _&&_}
+use mathlib.Core.Bool.{Bool, not, _&&_}
 use mathlib.Core.List.{List}
-use mathlib.Core.Path.{_≡_, refl, sym, ap, _∙_}
-use Prim.Native.Nat.{ℕ, zero, suc, _+_, _-_, _*_, _≤_, _<_}
+use mathlib.Core.Path.{_≡_, refl, ap, _∙_}
+use Prim.Native.Nat.{ℕ, zero, suc, _+_, _-_, _*_}
 use native.Mathlib.Omega.{arith}
 use borrow.Author.Tests.{eq-eqb, ne-eqb}
 use lib.Dec.{eqb, leb}
-use lib.ListN.{length, getD}
+use lib.ListN.{length}
 use Rattle.model.specs.Counting.{sumBelow, one-if, countBelow}
-use Rattle.model.specs.Distance.{Distance, within}
+use Rattle.model.specs.Distance.{within}
 use Rattle.model.specs.Events.{Event, event, eventLocation}
 use Rattle.model.specs.Network.{Network, EndsAreNodes}
 use Rattle.model.specs.PairCount.{eventAt, eventDistance, isPair, pairCount}

@@ -2,15 +2,15 @@
 use mathlib.Core.List.{List}
 use mathlib.Core.Path.{_≡_, refl, sym, ap, _∙_}
 use Prim.Native.Nat.{ℕ, suc, _+_, _-_, _*_, _≤_, _<_, min}
-use native.Mathlib.Nat.{mul-add, mul-le-mul-left, le-trans}
+use native.Mathlib.Nat.{mul-add, mul-le-mul-left}
 use native.Mathlib.Numerals.{add-one}
 use native.Mathlib.Omega.{arith}
 use lib.Dec.{leb}
-use lib.ListN.{length, getD}
+use lib.ListN.{getD}
 use Rattle.model.specs.Counting.{one-if}
 use Rattle.model.specs.Limits.{maxEvents}
 use Rattle.model.specs.Network.{Network}
-use Rattle.range_query.specs.Runs.{Ready, pairsWithin, pairsFrom}
+use Rattle.range_query.specs.Runs.{RunsReady, pairsWithin, pairsFrom}
 use Rattle.range_query.specs.Tally.{Added, Room, sumBetween}
 use Rattle.range_query.proofs.Laws.Between.{between-none, between-zero, between-join}
 use Rattle.range_query.proofs.Laws.Meeting.{most}
@@ -21,7 +21,7 @@ use Rattle.range_query.proofs.Laws.Tally.{added-none, added-then, added
 pub room-left : {steps old new : List ℕ} {m n k : ℕ} {f : ℕ → ℕ} → Room old n → Added steps old new m f → m + k ≤ n → Room new k
 room-left r a h = record { long = a .long ∙ r .long; room = omega (arith, r .room, a .total) }
 
-module _ {net : Network} {table edges offsets bounds steps : List ℕ} {r a : ℕ} (w : Ready net table edges offsets bounds steps r (suc a)) (le : r ≤ a) (m : ℕ → ℕ → ℕ) where
+module _ {net : Network} {table edges offsets bounds steps : List ℕ} {r a : ℕ} (w : RunsReady net table edges offsets bounds steps r (suc a)) (le : r ≤ a) (m : ℕ → ℕ → ℕ) where
   -- run a against the runs from r up to before b
   abbrev pub Run : List ℕ → List ℕ → ℕ → Type 0
   Run old new b =
@@ -70,7 +70,7 @@ module _ {net : Network} {table edges offsets bounds steps : List ℕ} {r a : �
       let whole : Run old new (suc a) = rw e at so-far in
       added-as _ _ (few (suc a) (omega arith) (omega arith)) (λ k h. pairs-all m _ _ _ _) whole
 
-module _ {net : Network} {table edges offsets bounds steps : List ℕ} {r q : ℕ} (w : Ready net table edges offsets bounds steps r q) (m : ℕ → ℕ → ℕ) where
+module _ {net : Network} {table edges offsets bounds steps : List ℕ} {r q : ℕ} (w : RunsReady net table edges offsets bounds steps r q) (m : ℕ → ℕ → ℕ) where
   -- the runs from r up to before a
   abbrev pub Set : List ℕ → List ℕ → ℕ → Type 0
   Set old new a =

@@ -1,15 +1,14 @@
 -- Two runs of one set: what their block asks, and what it adds.
-use mathlib.Core.Bool.{Bool, true, false}
 use mathlib.Core.List.{List}
-use mathlib.Core.Path.{_≡_, refl, sym, ap, ap₂, subst, _∙_}
-use Prim.Native.Nat.{ℕ, zero, suc, pred, _+_, _-_, _*_, _≤_, _<_, min}
+use mathlib.Core.Path.{_≡_, sym, ap, subst}
+use Prim.Native.Nat.{ℕ, suc, pred, _+_, _-_, _*_, _≤_, _<_}
 use native.Mathlib.Nat.{le-trans}
 use native.Mathlib.Numerals.{add-one, sub-one}
 use native.Mathlib.Omega.{arith}
-use lib.ListN.{length, getD}
+use lib.ListN.{getD}
 use Rattle.model.specs.Network.{Network, size}
 use Rattle.range_query.specs.Metres.{Ways, edgePair, metresAt}
-use Rattle.range_query.specs.Runs.{Apart, Block, Ready, pairsWithin, blockMetres}
+use Rattle.range_query.specs.Runs.{Apart, Block, RunsReady, pairsWithin, blockMetres}
 use Rattle.range_query.specs.Tally.{Steps, Added, Room}
 use Rattle.range_query.specs.declared.metres.EdgePair.{EdgePair}
 use Rattle.range_query.proofs.Laws.Runs.{pairs-cong, pairs-none, apart-beyond, bounds-rise, run-edge}
@@ -28,7 +27,7 @@ pub record Cut (edges bounds : List ℕ) (a b from to other-from other-to e f : 
 abbrev pub most : List ℕ → ℕ → ℕ → ℕ
 most bounds a b = (getD bounds (suc a) 0 - getD bounds a 0) * (getD bounds (suc b) 0 - getD bounds b 0)
 
-module _ {net : Network} {table edges offsets bounds steps : List ℕ} {a b : ℕ} (w : Ready net table edges offsets bounds steps b (suc a)) (le : b ≤ a) (g : EdgePair) (ways : Ways g) (is : g ≡ edgePair net table (pred (getD edges (getD bounds a 0) 0)) (pred (getD edges (getD bounds b 0) 0))) where
+module _ {net : Network} {table edges offsets bounds steps : List ℕ} {a b : ℕ} (w : RunsReady net table edges offsets bounds steps b (suc a)) (le : b ≤ a) (g : EdgePair) (ways : Ways g) (is : g ≡ edgePair net table (pred (getD edges (getD bounds a 0) 0)) (pred (getD edges (getD bounds b 0) 0))) where
   -- two runs on the edges of a pair
   runs-block : Block g offsets (getD bounds a 0) (getD bounds (suc a) 0) (getD bounds b 0) (getD bounds (suc b) 0)
   unfolding edgePair
@@ -64,7 +63,7 @@ module _ {net : Network} {table edges offsets bounds steps : List ℕ} {a b : �
 pub cut-pair : (net : Network) (table : List ℕ) {edges bounds : List ℕ} {a b from to other-from other-to e f : ℕ} {g : EdgePair} → Cut edges bounds a b from to other-from other-to e f → g ≡ edgePair net table (e - 1) (f - 1) → g ≡ edgePair net table (pred (getD edges (getD bounds a 0) 0)) (pred (getD edges (getD bounds b 0) 0))
 cut-pair net table {edges} {bounds} {a} {b} cut is = rw (cut .edge-is, cut .other-edge-is, cut .from-is, cut .other-from-is, sub-one (getD edges (getD bounds a 0) 0), sub-one (getD edges (getD bounds b 0) 0)) at is
 
-module _ {net : Network} {table edges offsets bounds steps : List ℕ} {a b : ℕ} (w : Ready net table edges offsets bounds steps b (suc a)) (le : b ≤ a) {from to other-from other-to e f : ℕ} (cut : Cut edges bounds a b from to other-from other-to e f) (g : EdgePair) (is : g ≡ edgePair net table (e - 1) (f - 1)) (ways : Ways g) where
+module _ {net : Network} {table edges offsets bounds steps : List ℕ} {a b : ℕ} (w : RunsReady net table edges offsets bounds steps b (suc a)) (le : b ≤ a) {from to other-from other-to e f : ℕ} (cut : Cut edges bounds a b from to other-from other-to e f) (g : EdgePair) (is : g ≡ edgePair net table (e - 1) (f - 1)) (ways : Ways g) where
   -- none of the pairs is within a threshold
   pub cut-apart : (buckets : List ℕ) → Apart g (getD steps 63 0) → Added steps buckets buckets (most bounds a b) (pairsWithin (metresAt net table edges offsets) (getD bounds a 0) (getD bounds (suc a) 0) (getD bounds b 0) (getD bounds (suc b) 0))
   cut-apart = runs-apart w le g ways (cut-pair net table cut is)

@@ -1,25 +1,23 @@
 -- The metres between two events are within a threshold exactly when the events' distance is.
-use mathlib.Core.Bool.{Bool, true, false, cond, not, _&&_, _||_}
+use mathlib.Core.Bool.{Bool, true, false, cond, _&&_, _||_}
 use mathlib.Core.List.{List}
 use mathlib.Core.Path.{_≡_, refl, sym, ap, ap₂, _∙_}
-use Prim.Native.Nat.{ℕ, zero, suc, pred, _+_, _-_, _≤_, _<_, min}
+use Prim.Native.Nat.{ℕ, pred, _+_, _-_, _≤_, _<_, min}
 use native.Mathlib.Omega.{arith}
-use borrow.Author.Tests.{lt-leb, ne-eqb}
+use borrow.Author.Tests.{lt-leb}
 use lib.Dec.{eqb, leb, eqb·suc-zero}
-use lib.ListN.{length, getD}
-use Rattle.model.specs.Distance.{Distance, none, least, within, plus, code, difference}
+use Rattle.model.specs.Distance.{Distance, none, least, within, code, difference}
 use Rattle.model.specs.Distance as distance
-use Rattle.model.specs.Events.{Event, event, IsEvent}
+use Rattle.model.specs.Events.{Event, IsEvent}
 use Rattle.model.specs.Location.{Side, at-first, at-second, endNode, gap, reaches}
 use Rattle.model.specs.Network.{Network, EndsAreNodes, size}
 use Rattle.model.specs.NodeDistance.{boundedDistance}
 use Rattle.model.specs.PairCount.{eventDistance}
-use Rattle.model.proofs.Laws.Routes.{some-route, reaches-code, event-within}
+use Rattle.model.proofs.Laws.Routes.{reaches-code, event-within}
 use Rattle.model.proofs.Laws.Within.{within-least}
 use Rattle.prepare.specs.Prepared.{entry}
-use Rattle.range_query.specs.Metres.{far, way, meet, metres, metresAt, toFirst, toSecond, placeOn, between, edgePair}
+use Rattle.range_query.specs.Metres.{far, way, meet, metres, toFirst, toSecond, placeOn, between, edgePair}
 use Rattle.range_query.specs.declared.metres.EdgePair.{EdgePair}
-use Rattle.range_query.proofs.Laws.Ways.{way-some, way-none}
 
 -- the lesser of two is within t if one of them is
 lesser-within : (m n t : ℕ) → leb (min m n) t ≡ leb m t || leb n t

@@ -1,25 +1,20 @@
 -- The runs of a set: each with those up to itself, and all of them.
-use mathlib.Core.Bool.{Bool, true, false, cond}
 use mathlib.Core.List.{List}
-use mathlib.Core.Path.{_≡_, refl, sym, ap, ap₂, subst, _∙_}
-use Prim.Native.Nat.{ℕ, zero, suc, pred, _+_, _-_, _*_, _≤_, _<_, min}
-use native.Mathlib.Nat.{mul-le-mul-left, mul-le-mul-right, mul-add, add-mul, le-trans}
-use native.Mathlib.Numerals.{add-one}
+use mathlib.Core.Path.{_≡_, sym, ap, subst, _∙_}
+use Prim.Native.Nat.{ℕ, suc, pred, _+_, _-_, _≤_, _<_, min}
 use native.Mathlib.Omega.{arith}
 use borrow.Author.Tests.{lt-leb}
 use lib.Dec.{leb}
 use lib.ListN.{length, getD}
 use Rattle.model.specs.Counting.{one-if}
 use Rattle.model.specs.Distance.{difference}
-use Rattle.model.specs.Limits.{maxEvents}
 use Rattle.model.specs.Network.{Network, size}
 use Rattle.model.proofs.Laws.Pieces.{rise}
-use Rattle.range_query.specs.Metres.{Ways, far, edgePair, meet, metres, metresAt, toFirst, toSecond, placeOn}
-use Rattle.range_query.specs.Runs.{Apart, Block, Held, Placed, RunsOf, Ready, pairsWithin, pairsFrom, blockMetres}
-use Rattle.range_query.specs.Tally.{Steps, Added, Room, sumBetween}
+use Rattle.range_query.specs.Metres.{Ways, far, meet, metres, toFirst, toSecond, placeOn}
+use Rattle.range_query.specs.Runs.{Apart, RunsReady, pairsWithin, pairsFrom}
+use Rattle.range_query.specs.Tally.{sumBetween}
 use Rattle.range_query.specs.declared.metres.EdgePair.{EdgePair}
-use Rattle.range_query.proofs.Laws.Between.{between-none, between-more, between-cong, between-add, between-zero, between-join}
-use Rattle.range_query.proofs.Laws.Tally.{added-none, added-then, added-as}
+use Rattle.range_query.proofs.Laws.Between.{between-cong, between-add, between-zero, between-join}
 
 -- pairs by measures that agree on them
 pub pairs-cong : (m m′ : ℕ → ℕ → ℕ) (a b c d t : ℕ) → ((i j : ℕ) → a ≤ i → i < b → c ≤ j → j < d → m i j ≡ m′ i j) → pairsWithin m a b c d t ≡ pairsWithin m′ a b c d t
@@ -65,14 +60,14 @@ apart-beyond g reach x y t w a on h k =
     by-second : t < toSecond g x
     by-second = unfold toSecond in omega (arith, a .onward-beyond, a .seconds-beyond)
 
-module _ {net : Network} {table edges offsets bounds steps : List ℕ} {r q : ℕ} (w : Ready net table edges offsets bounds steps r q) where
+module _ {net : Network} {table edges offsets bounds steps : List ℕ} {r q : ℕ} (w : RunsReady net table edges offsets bounds steps r q) where
   -- the bounds rise
   pub bounds-rise : (j k : ℕ) → r ≤ j → j ≤ k → k ≤ q → getD bounds j 0 ≤ getD bounds k 0
   bounds-rise j k h l m =
       subst (λ n. getD bounds j 0 ≤ getD bounds n 0) {x = j + (k - j)} {y = k} (omega arith) (rise (λ n. getD bounds n 0) j (k - j) (λ i b. let up : getD bounds (j + i) 0 < getD bounds (suc (j + i)) 0 = w .runs .rising (j + i) (omega arith) (omega arith) in omega arith))
 
   -- some of the runs
-  pub ready-some : (r′ q′ : ℕ) → r ≤ r′ → r′ ≤ q′ → q′ ≤ q → Ready net table edges offsets bounds steps r′ q′
+  pub ready-some : (r′ q′ : ℕ) → r ≤ r′ → r′ ≤ q′ → q′ ≤ q → RunsReady net table edges offsets bounds steps r′ q′
   ready-some r′ q′ h l m =
       let to : getD bounds q′ 0 ≤ getD bounds q 0 = bounds-rise q′ q (omega arith) m (omega arith) in
       record {

@@ -1,17 +1,16 @@
 -- A square table's entries lie within it, and what is read for two edges is what the pair of them has.
-use mathlib.Core.Bool.{Bool, true, false}
+use mathlib.Core.Bool.{false}
 use mathlib.Core.List.{List}
-use mathlib.Core.Path.{_≡_, refl, sym, ap, ap₂, _∙_}
+use mathlib.Core.Path.{_≡_}
 use Prim.Native.Nat.{ℕ, suc, pred, _+_, _-_, _*_, _≤_, _<_, min}
 use native.Mathlib.Nat.{suc-mul, mul-le-mul}
 use native.Mathlib.Numerals.{sub-one}
 use native.Mathlib.Omega.{arith}
 use lib.Dec.{eqb}
-use lib.ListN.{length, getD}
-use Rattle.model.specs.Network.{Network, IsNode, EndsAreNodes, first, second, size}
+use Rattle.model.specs.Network.{Network, IsNode, first, second, size}
 use Rattle.model.specs.Location.{endNode}
 use Rattle.prepare.specs.Prepared.{entry}
-use Rattle.range_query.specs.Metres.{Ways, far, way, edgePair, between}
+use Rattle.range_query.specs.Metres.{way, edgePair, between}
 use Rattle.range_query.specs.Runs.{Apart, Held, TableEntry}
 use Rattle.range_query.specs.declared.metres.EdgePair.{EdgePair}
 

@@ -1,11 +1,10 @@
 -- The metres of a table entry, and that sums with them do not wrap.
 use mathlib.Core.Bool.{Bool, true, false, cond}
-use mathlib.Core.Path.{_≡_, refl, sym, ap, _∙_}
-use Prim.Native.Nat.{ℕ, suc, pred, _+_, _-_, _≤_, _<_, min}
+use mathlib.Core.Path.{_≡_}
+use Prim.Native.Nat.{ℕ, pred, _-_, _≤_, _<_}
 use native.Mathlib.Decide.{ℕ-discrete}
 use native.Mathlib.Omega.{arith}
 use borrow.Author.Tests.{eq-eqb, ne-eqb}
-use lib.Dec.{eqb}
 use Rattle.range_query.specs.Metres.{far, way}
 
 -- no way

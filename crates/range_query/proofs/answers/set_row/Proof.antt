@@ -1,3 +1,4 @@
+-- The tally begins empty, so its sums are the pairs of the set.
 use mathlib.Core.Path.{refl}
 use native.Mathlib.Omega.{arith}
 use lib.ListN.{replicate}
@@ -5,10 +6,6 @@ use Rattle.range_query.proofs.Laws.Answers.{counted, up-to-none, zeros-
 use borrow.Author.Needs.{needs}
 use Rattle.range_query.proofs.answers.set_row.Statement.{statement}
 use Rattle.range_query.proofs.answers.set_row.Tie as tie
-use Rattle.range_query.proofs.answers.set_row.Reads as reads
-use Rattle.range_query.proofs.answers.set_row.Lts as lts
-use Rattle.range_query.proofs.answers.write_row.Reads as write-row-reads
-use Rattle.range_query.proofs.runs.set_pairs.Reads as set-pairs-reads
 
 set-pairs-requires : tie.Need-set-pairs-requires
 set-pairs-requires c κs = (c .before .before .before .before .before .before .before .before .before .pre .0, record { long = refl; room = omega (arith, up-to-none (replicate 65 0) 64 (zeros-at 65)) })

@@ -1,8 +1,9 @@
+-- The steps so far are the thresholds, the last one repeated.
 use mathlib.Core.Path.{_≡_, ap, _∙_}
-use Prim.Native.Nat.{_+_, _-_, _*_, _≤_, _<_, min}
+use Prim.Native.Nat.{_-_, _≤_, min}
 use native.Mathlib.Omega.{arith}
 use borrow.Author.Needs.{needs}
-use lib.ListN.{length, getD, length-set}
+use lib.ListN.{getD}
 use Rattle.range_query.proofs.Laws.Answers.{Filled, filled-none, filled-more}
 use Rattle.range_query.proofs.answers.spread.Statement.{statement}
 use Rattle.range_query.proofs.answers.spread.Tie as tie

@@ -1,3 +1,4 @@
+-- The sum is that of the buckets so far, and the row so far holds the sums, doubled.
 use mathlib.Core.Path.{_≡_, refl, _∙_}
 use Prim.Native.Nat.{_+_, _-_, _*_, _≤_, _<_}
 use native.Mathlib.Omega.{arith}
@@ -10,8 +11,6 @@ use Rattle.range_query.proofs.Laws.Answers.{Filled, filled-none, filled
 use Rattle.range_query.proofs.Laws.Tally.{up-to-grows}
 use Rattle.range_query.proofs.answers.write_row.Statement.{statement}
 use Rattle.range_query.proofs.answers.write_row.Tie as tie
-use Rattle.range_query.proofs.answers.write_row.Reads as reads
-use Rattle.range_query.proofs.answers.write_row.Lts as lts
 
 abbrev Inv-loop : tie.InvT-loop
 Inv-loop buckets row₀ sum₀ k₀ row sum k = (k ≤ length row) × (sum ≡ sumBelow k (λ b. getD buckets b 0)) × Filled row₀ row k (λ j. 2 * upTo buckets j)

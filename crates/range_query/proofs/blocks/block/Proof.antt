@@ -1,8 +1,8 @@
+-- The tally after event i is that of the rows up to it.
 use borrow.Author.Count.{falls}
-use Prim.Native.Nat.{_+_, _-_, _*_, _≤_, _<_}
+use Prim.Native.Nat.{_-_, _*_, _≤_}
 use native.Mathlib.Omega.{arith}
 use borrow.Author.Needs.{needs}
-use lib.ListN.{length, getD}
 use Rattle.range_query.proofs.Laws.Blocks.{row-fits, block-more, block-none, block-done}
 use Rattle.range_query.specs.Runs.{blockMetres, pairsWithin}
 use Rattle.range_query.specs.Tally.{Added}

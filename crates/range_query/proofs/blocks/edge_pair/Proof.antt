@@ -1,3 +1,4 @@
+-- The four ways are those of the table between the edges' ends.
 use Rattle.prepare.specs.Prepared.{entry}
 use Rattle.range_query.proofs.Laws.Table.{held-entry, edge-pair-as}
 use borrow.Author.Needs.{needs}

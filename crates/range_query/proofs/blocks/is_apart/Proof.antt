@@ -1,3 +1,4 @@
+-- The least of the four ways is beyond the reach, so each is.
 use mathlib.Core.Bool.{false≢true}
 use borrow.Author.Tests.{ltb-true}
 use Rattle.range_query.proofs.Laws.Table.{apart}

@@ -1,3 +1,4 @@
+-- The entry lies in the table, since both nodes are the network's.
 use native.Mathlib.Omega.{arith}
 use Rattle.range_query.proofs.Laws.Table.{in-table, place-as}
 use Rattle.range_query.proofs.Laws.Ways.{way-to}

@@ -1,3 +1,4 @@
+-- The difference without sign is one of two differences, by which number is greater.
 use native.Mathlib.Omega.{arith}
 use Rattle.model.specs.Distance.{difference}
 use borrow.Author.Needs.{needs}

@@ -1,3 +1,4 @@
+-- The least of three numbers, none of which wraps.
 use Rattle.range_query.specs.Metres.{meet}
 use borrow.Author.Needs.{needs}
 use Rattle.range_query.proofs.metres.meet.Statement.{statement}

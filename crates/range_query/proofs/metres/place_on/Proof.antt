@@ -1,3 +1,4 @@
+-- On one edge the offset itself, on two the number that stands for no way.
 use Rattle.range_query.specs.Metres.{placeOn}
 use Rattle.range_query.proofs.metres.place_on.Statement.{statement}
 use Rattle.range_query.proofs.metres.place_on.Tie as tie

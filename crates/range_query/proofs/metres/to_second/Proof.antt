@@ -1,3 +1,4 @@
+-- Neither sum wraps, since lengths and ways are within their limits.
 use Rattle.range_query.specs.Metres.{toSecond}
 use borrow.Author.Needs.{needs}
 use Rattle.range_query.proofs.metres.to_second.Statement.{statement}

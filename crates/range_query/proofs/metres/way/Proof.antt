@@ -1,3 +1,4 @@
+-- An entry of 0 is no way; any other is one more than the metres.
 use mathlib.Core.Path.{sym}
 use Rattle.range_query.proofs.Laws.Ways.{way-none, way-some}
 use borrow.Author.Needs.{needs}

@@ -1,3 +1,4 @@
+-- Either no way is within the greatest threshold and there is nothing to add, or the block adds every pair.
 use Prim.Native.Nat.{_-_, _≤_, _<_}
 use native.Mathlib.Omega.{arith}
 use lib.ListN.{length}
@@ -6,12 +7,6 @@ use Rattle.range_query.proofs.Laws.Runs.{run-named, run-listed}
 use borrow.Author.Needs.{needs}
 use Rattle.range_query.proofs.runs.meet_runs.Statement.{statement}
 use Rattle.range_query.proofs.runs.meet_runs.Tie as tie
-use Rattle.range_query.proofs.runs.meet_runs.Reads as reads
-use Rattle.range_query.proofs.runs.meet_runs.Lts as lts
-use Rattle.range_query.proofs.blocks.block.Reads as block-reads
-use Rattle.range_query.proofs.blocks.edge_pair.Reads as edge-pair-reads
-use Rattle.range_query.proofs.blocks.is_apart.Reads as is-apart-reads
-use Rattle.range_query.proofs.runs.place.Reads as place-reads
 
 place-requires : tie.Need-place-requires
 place-requires c κs = search needs

@@ -1,3 +1,4 @@
+-- An entry of 32 bits fits a place.
 use native.Mathlib.Omega.{arith}
 use borrow.Author.Needs.{needs}
 use Rattle.range_query.proofs.runs.place.Statement.{statement}

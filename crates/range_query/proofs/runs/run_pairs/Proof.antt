@@ -1,6 +1,7 @@
-use Prim.Native.Nat.{suc, _+_, _-_, _*_, _≤_, _<_}
+-- The tally after run b is that of the places of run a with those up to run b.
+use Prim.Native.Nat.{suc, _-_, _*_, _≤_}
 use native.Mathlib.Omega.{arith}
-use lib.ListN.{length, getD}
+use lib.ListN.{getD}
 use Rattle.model.specs.Network.{network}
 use Rattle.range_query.specs.Metres.{metresAt}
 use Rattle.range_query.specs.Runs.{pairsWithin}
@@ -9,9 +10,6 @@ use Rattle.range_query.proofs.Laws.Looping.{run-none, run-room, run-mor
 use Rattle.range_query.proofs.Laws.Runs.{ready-some}
 use Rattle.range_query.proofs.runs.run_pairs.Statement.{statement}
 use Rattle.range_query.proofs.runs.run_pairs.Tie as tie
-use Rattle.range_query.proofs.runs.run_pairs.Reads as reads
-use Rattle.range_query.proofs.runs.run_pairs.Lts as lts
-use Rattle.range_query.proofs.runs.meet_runs.Reads as meet-runs-reads
 
 abbrev Inv-loop : tie.InvT-loop
 Inv-loop nodes firsts seconds lengths table edges offsets bounds r a steps buckets₀ b₀ buckets b =

@@ -1,6 +1,7 @@
-use Prim.Native.Nat.{suc, _+_, _-_, _*_, _≤_, _<_}
+-- The tally after run a is that of all pairs up to it.
+use Prim.Native.Nat.{_-_, _*_, _≤_}
 use native.Mathlib.Omega.{arith}
-use lib.ListN.{length, getD}
+use lib.ListN.{getD}
 use Rattle.model.specs.Limits.{maxEvents}
 use Rattle.model.specs.Network.{network}
 use Rattle.range_query.specs.Metres.{metresAt}
@@ -10,9 +11,6 @@ use Rattle.range_query.proofs.Laws.Looping.{set-none, set-room, set-mor
 use Rattle.range_query.proofs.Laws.Runs.{ready-some}
 use Rattle.range_query.proofs.runs.set_pairs.Statement.{statement}
 use Rattle.range_query.proofs.runs.set_pairs.Tie as tie
-use Rattle.range_query.proofs.runs.set_pairs.Reads as reads
-use Rattle.range_query.proofs.runs.set_pairs.Lts as lts
-use Rattle.range_query.proofs.runs.run_pairs.Reads as run-pairs-reads
 
 abbrev Inv-loop : tie.InvT-loop
 Inv-loop nodes firsts seconds lengths table edges offsets bounds r q steps buckets₀ a₀ buckets a =

@@ -1,3 +1,4 @@
+-- The steps to look at halve from 64 to none.
 use native.Mathlib.Omega.{arith}
 use Rattle.range_query.proofs.Laws.Steps.{bracket-all, bracket-found}
 use Rattle.range_query.specs.Tally.{Bracket}

@@ -1,3 +1,4 @@
+-- Whatever is left behind the half, the first step that admits d is in it or in the half.
 use Prim.Native.Nat.{_+_, _-_}
 use lib.Dec.{ltb}
 use lib.ListN.{getD}

@@ -1,3 +1,4 @@
+-- The half is passed exactly when its last step is below d.
 use borrow.Author.Tests.{lt-ltb, le-ltb}
 use Rattle.range_query.proofs.tally.passed.Statement.{statement}
 use Rattle.range_query.proofs.tally.passed.Tie as tie

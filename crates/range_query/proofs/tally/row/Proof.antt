@@ -1,5 +1,6 @@
+-- The tally after j offsets is that of the first j.
 use mathlib.Core.Path.{_≡_}
-use Prim.Native.Nat.{_+_, _-_, _≤_, _<_}
+use Prim.Native.Nat.{_-_, _≤_}
 use native.Mathlib.Omega.{arith}
 use borrow.Author.Needs.{needs}
 use lib.Dec.{leb}
@@ -10,10 +11,6 @@ use Rattle.range_query.specs.Metres.{meet}
 use Rattle.range_query.specs.Tally.{Added}
 use Rattle.range_query.proofs.tally.row.Statement.{statement}
 use Rattle.range_query.proofs.tally.row.Tie as tie
-use Rattle.range_query.proofs.tally.row.Reads as reads
-use Rattle.range_query.proofs.tally.row.Lts as lts
-use Rattle.range_query.proofs.metres.meet.Reads as meet-reads
-use Rattle.range_query.proofs.tally.bucket.Reads as bucket-reads
 
 abbrev Inv-loop : tie.InvT-loop
 Inv-loop ys p q other place steps buckets₀ j₀ buckets j = (j ≤ length ys) × Added steps buckets₀ buckets j (λ t. countBelow j (λ i. leb (meet p q other place (getD ys i 0)) t))
@@ -22,7 +19,6 @@ abbrev μ-loop : tie.MeasureT-loop
 μ-loop ys p q other place steps buckets₀ j₀ buckets j = length ys - j
 
 -- src/tally.rt:55:5
--- none are counted
 loop-holds : tie.Need-loop-holds Inv-loop μ-loop
 unfolding countBelow sumBelow
 loop-holds c = (omega arith, added-none _ _)

@@ -1,0 +1,114 @@
+// The counts of all sets at all thresholds.
+ghost use Rattle.model.specs.Network.{network};
+ghost use Rattle.prepare.specs.Counts.{CountsAnswered};
+use crate::answers::set_row;
+use crate::answers::spread;
+use crate::runs::place;
+use crate::tally::STEPS;
+use model::Check;
+use model::EventSet;
+
+// The same with working storage lent.
+fn count_sets(
+    nodes: u32,
+    firsts: &[u32],
+    seconds: &[u32],
+    lengths: &[u32],
+    sets: &[u32],
+    edges: &[u32],
+    offsets: &[u32],
+    thresholds: &[u32],
+    laid_edges: &mut [u32; EventSet::MAX_EVENTS],
+    laid_offsets: &mut [u32; EventSet::MAX_EVENTS],
+    bounds: &mut [u32; prepare::BOUNDS],
+    set_runs: &mut [u32; prepare::SET_RUNS],
+    table: &mut [u32; prepare::TABLE],
+    answers: &mut [u32],
+) -> Check
+    ensures { λ r. ⌜ CountsAnswered (network nodes (now (firsts .entry)) (now (seconds .entry)) (now (lengths .entry))) (now (sets .entry)) (now (edges .entry)) (now (offsets .entry)) (now (thresholds .entry)) (now (answers .entry)) r (now (answers .exit)) ⌝ }
+{
+    let verdict = prepare::prepare(
+        nodes,
+        firsts,
+        seconds,
+        lengths,
+        sets,
+        edges,
+        offsets,
+        thresholds,
+        answers.len(),
+        laid_edges,
+        laid_offsets,
+        bounds,
+        set_runs,
+        table,
+    );
+    if let Check::Refused(_, _) = verdict {
+        return verdict;
+    }
+    let mut steps = [0u32; STEPS];
+    spread(thresholds, &mut steps);
+    let count = validate::greatest_set(sets) as usize + 1;
+    let width = thresholds.len();
+    let mut start = 0;
+    let mut s = 0;
+    while s < count {
+        let end = start + width;
+        let r = place(set_runs, s);
+        let q = place(set_runs, s + 1);
+        set_row(
+            nodes,
+            firsts,
+            seconds,
+            lengths,
+            table,
+            laid_edges,
+            laid_offsets,
+            bounds,
+            r,
+            q,
+            &steps,
+            &mut answers[start..end],
+        );
+        start = end;
+        s += 1;
+    }
+    verdict
+}
+
+// For each event the others in reach. The answers stand set by set, and under each set threshold by threshold.
+pub fn counts(
+    nodes: u32,
+    firsts: &[u32],
+    seconds: &[u32],
+    lengths: &[u32],
+    sets: &[u32],
+    edges: &[u32],
+    offsets: &[u32],
+    thresholds: &[u32],
+    answers: &mut [u32],
+) -> Check
+    ensures { λ r. ⌜ CountsAnswered (network nodes (now (firsts .entry)) (now (seconds .entry)) (now (lengths .entry))) (now (sets .entry)) (now (edges .entry)) (now (offsets .entry)) (now (thresholds .entry)) (now (answers .entry)) r (now (answers .exit)) ⌝ }
+{
+    let mut laid_edges = [0u32; EventSet::MAX_EVENTS];
+    let mut laid_offsets = [0u32; EventSet::MAX_EVENTS];
+    let mut bounds = [0u32; prepare::BOUNDS];
+    let mut set_runs = [0u32; prepare::SET_RUNS];
+    let mut table = [0u32; prepare::TABLE];
+    count_sets(
+        nodes,
+        firsts,
+        seconds,
+        lengths,
+        sets,
+        edges,
+        offsets,
+        thresholds,
+        &mut laid_edges,
+        &mut laid_offsets,
+        &mut bounds,
+        &mut set_runs,
+        &mut table,
+        answers,
+    )
+}
