@@ -14,3 +14,4 @@ pub mod Entries
 pub mod RunSums
 pub mod RunEvents
 pub mod CountRows
+pub mod RunPairs
