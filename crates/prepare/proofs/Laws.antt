@@ -15,3 +15,4 @@ pub mod RunSums
 pub mod RunEvents
 pub mod CountRows
 pub mod RunPairs
+pub mod SetPairs

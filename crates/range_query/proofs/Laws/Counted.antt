@@ -12,7 +12,7 @@ use Rattle.model.specs.Distance.{code, within}
 use Rattle.model.specs.Envelope.{countOfSet}
 use Rattle.model.specs.Events.{Event, event, events, setSize, setCount}
 use Rattle.model.specs.Limits.{maxEvents}
-use Rattle.model.specs.Location.{Side, at-first, at-second, endNode}
+use Rattle.model.specs.Location.{Side, endNode}
 use Rattle.model.specs.Network.{Network}
 use Rattle.model.specs.NodeDistance.{boundedDistance}
 use Rattle.model.specs.PairCount.{eventAt, eventDistance}
@@ -21,7 +21,7 @@ use Rattle.model.proofs.Laws.Counting.{sum-below-cong, count-below-cong}
 use Rattle.prepare.specs.Counts.{countRow}
 use Rattle.prepare.specs.Prepared.{Prepared, laidOutSet, startOf, greatest, entry}
 use Rattle.range_query.proofs.Laws.CountRows.{row-length}
-use Rattle.prepare.proofs.Laws.Entries as ends
+use Rattle.prepare.proofs.Laws.Entries.{ends-entry}
 use Rattle.prepare.proofs.Laws.Groups.{events-total, laid-out-length, start-next, starts-rise}
 use Rattle.prepare.proofs.Laws.InRuns.{set-runs-rise}
 use Rattle.prepare.proofs.Laws.LaidEvents.{set-count, set-event, events-long, laid-is-event}
@@ -88,11 +88,7 @@ module _ {net : Network} {sets es xs ts edges offsets bounds setRuns table steps
 
   -- the table between the ends of two events' edges
   codes : (k j : ℕ) → k < length es → j < length es → (a b : Side) → entry net table (endNode net (pred (getD edges k 0)) a) (endNode net (pred (getD edges j 0)) b) ≡ code (boundedDistance net (greatest ts) (endNode net (pred (getD edges k 0)) a) (endNode net (pred (getD edges j 0)) b))
-  unfolding endNode
-  codes k j h l at-first at-first = ends.ends-entry accepted p ends.at-first ends.at-first k j h l
-  codes k j h l at-first at-second = ends.ends-entry accepted p ends.at-first ends.at-second k j h l
-  codes k j h l at-second at-first = ends.ends-entry accepted p ends.at-second ends.at-first k j h l
-  codes k j h l at-second at-second = ends.ends-entry accepted p ends.at-second ends.at-second k j h l
+  codes k j h l a b = ends-entry accepted p a b k j h l
 
   -- two places are within a threshold exactly when their events are
   places-within : (k j i : ℕ) → k < length es → j < length es → i < length ts → leb (metresAt net table edges offsets k j) (getD ts i 0) ≡ within (eventDistance net (event (getD edges k 0) (getD offsets k 0)) (event (getD edges j 0) (getD offsets j 0))) (getD ts i 0)

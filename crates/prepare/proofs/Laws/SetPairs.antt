@@ -1,0 +1,141 @@
+-- What is prepared is what the loops over a set's runs read, and what they sum up is the set's row of the answer.
+use mathlib.Core.List.{List, map}
+use mathlib.Core.Path.{_≡_, refl, sym, ap, ap₂, _∙_}
+use Prim.Native.Nat.{ℕ, suc, pred, _+_, _-_, _*_, _≤_, _<_}
+use native.Mathlib.Decide.{decLe}
+use native.Mathlib.Nat.{mul-le-mul}
+use native.Mathlib.Omega.{arith}
+use lib.ListN.{length, getD}
+use Rattle.model.proofs.Laws.Checks.{SetsAccepted, ThresholdsAccepted, thresholds-rise}
+use Rattle.model.proofs.Laws.Counting.{sum-below-cong}
+use Rattle.model.specs.Counting.{sumBelow}
+use Rattle.model.specs.Envelope.{countOfSet}
+use Rattle.model.specs.Events.{event, events, setSize, setCount}
+use Rattle.model.specs.Limits.{maxEvents}
+use Rattle.model.specs.Network.{Network, EndsAreNodes}
+use Rattle.prepare.specs.Counts.{countRow}
+use Rattle.prepare.specs.Prepared.{Prepared, laidOutSet, startOf, greatest}
+use Rattle.prepare.specs.RunPairs.{edgeOf, partOf, runPairs, earlierPairs, allPairs, otherPairs, otherRow, SumFits, RunsReady, RowReady}
+use Rattle.prepare.proofs.Laws.Entries.{ends-entry}
+use Rattle.prepare.proofs.Laws.Groups.{events-total, laid-out-length, start-next, starts-rise}
+use Rattle.prepare.proofs.Laws.InRuns.{runCount, set-runs-rise, bounds-rise, offsets-rise}
+use Rattle.prepare.proofs.Laws.LaidEvents.{set-count, events-long, laid-is-event}
+use Rattle.prepare.proofs.Laws.RunEvents.{set-pairs}
+use Rattle.prepare.proofs.Laws.RunSums.{close-offsets, close-either, pairs-most, sum-halves}
+
+-- the lists have room for all events and all nodes
+pub record Stored (edges offsets bounds table : List ℕ) : Type 0 where
+  pub edges-length : length edges ≡ maxEvents
+  pub offsets-length : length offsets ≡ maxEvents
+  pub bounds-length : length bounds ≡ suc maxEvents
+  pub table-length : length table ≡ 262144
+
+-- the pairs of two runs are as many both ways
+pub run-pairs-either : (net : Network) (es xs bounds : List ℕ) (t a b : ℕ) → EndsAreNodes net → runPairs net es xs bounds t a b ≡ runPairs net es xs bounds t b a
+unfolding runPairs
+run-pairs-either net es xs bounds t a b ends =
+    let e = edgeOf es bounds a in
+    let f = edgeOf es bounds b in
+    let ys = partOf bounds a xs in
+    let zs = partOf bounds b xs in
+    sym (close-offsets net t e f ys zs) ∙ close-either net t ends (map (event e) ys) (map (event f) zs) ∙ close-offsets net t f e zs ys
+
+-- rising thresholds are at most the greatest
+pub at-most-greatest : (ts : List ℕ) → ThresholdsAccepted ts → (i : ℕ) → i < length ts → getD ts i 0 ≤ greatest ts
+unfolding greatest
+at-most-greatest ts up i h = go (decLe (pred (length ts)) i)
+  where
+    go : Dec (pred (length ts) ≤ i) → getD ts i 0 ≤ getD ts (pred (length ts)) 0
+    go (yes l) = let e : i ≡ pred (length ts) = omega arith in rw e (omega arith)
+    go (no l) = omega (arith, thresholds-rise ts up i (pred (length ts)) (omega arith) (omega arith))
+
+module _ {net : Network} {sets es xs ts edges offsets bounds setRuns table : List ℕ} (accepted : SetsAccepted net sets es xs) (up : ThresholdsAccepted ts)
+    (p : Prepared net sets es xs ts edges offsets bounds setRuns table) where
+  abbrev from-run : ℕ → ℕ
+  from-run s = getD setRuns s 0
+
+  -- the events of set s
+  module _ (s : ℕ) (is-set : s < setCount sets) where
+    begins-at : getD bounds (from-run s) 0 ≡ startOf sets s
+    begins-at = p .runs .set-begins s (omega arith)
+
+    ends-at : getD bounds (from-run (suc s)) 0 ≡ startOf sets (suc s)
+    ends-at = p .runs .set-begins (suc s) is-set
+
+    inside : startOf sets (suc s) ≤ length es
+    inside = omega (arith, starts-rise sets (suc s) (setCount sets) is-set, events-total sets es (accepted .sets-length))
+
+    last-run : from-run (suc s) ≤ runCount accepted p
+    last-run = set-runs-rise accepted p (suc s) (setCount sets) is-set (omega arith)
+
+    -- what is read for the runs of the set
+    pub runs-ready : Stored edges offsets bounds table → (i : ℕ) → i < length ts → RunsReady net table edges offsets bounds (from-run s) (from-run (suc s)) (getD ts i 0)
+    unfolding edgeOf
+    runs-ready stored i h =
+        let net-is = accepted .is-network in
+        let few : length es ≤ maxEvents = accepted .are-events .few in
+        let end = ends-at in
+        let in-list = inside in
+        let last = last-run in
+        let square = mul-le-mul (net-is .nodes-to) (net-is .nodes-to) in
+        record {
+          firsts-length = net-is .firsts-length;
+          seconds-length = net-is .seconds-length;
+          nodes-to = net-is .nodes-to;
+          ends = net-is .ends;
+          length-to = net-is .length-to;
+          table-room = omega (arith, square, stored .table-length);
+          in-order = p .runs .in-order s is-set;
+          in-bounds = omega (arith, stored .bounds-length, p .runs .few);
+          few-runs = omega (arith, p .runs .few);
+          few = omega arith;
+          in-edges = omega (arith, stored .edges-length);
+          in-offsets = omega (arith, stored .offsets-length);
+          begins = λ k f l. p .runs .rising k (omega arith);
+          ends-in = λ k f l. bounds-rise accepted p (suc k) (from-run (suc s)) l last;
+          is-event = λ k l. laid-is-event accepted p k (omega arith);
+          one-edge = λ k j f l. p .runs .one-edge k j (omega arith);
+          rising = λ k j m f l. offsets-rise accepted p k j m (omega arith);
+          bound = greatest ts;
+          within-bound = at-most-greatest ts up i h;
+          codes = λ k j a b s₁ s₂. ends-entry accepted p s₁ s₂ k j (omega arith) (omega arith);
+        }
+
+    -- the set's count, with each event beside itself
+    set-total : (t : ℕ) → countOfSet net sets (events es xs) t s + setSize sets s ≡ allPairs net edges offsets bounds t (from-run s) (from-run (suc s) - from-run s)
+    unfolding allPairs earlierPairs runPairs partOf edgeOf
+    set-total t =
+        set-pairs accepted p s t is-set
+        ∙ sum-halves (λ a b. runPairs net edges offsets bounds t (from-run s + a) (from-run s + b)) (from-run (suc s) - from-run s)
+        (λ a b h l. run-pairs-either net edges offsets bounds t (from-run s + a) (from-run s + b) (accepted .is-network .ends))
+
+    -- without it
+    pub other-pairs : (t : ℕ) → otherPairs net edges offsets bounds t (from-run s) (from-run (suc s)) ≡ countOfSet net sets (events es xs) t s
+    unfolding otherPairs
+    other-pairs t = omega (arith, set-total t, begins-at, ends-at, start-next sets s)
+
+    count-small : (t : ℕ) → countOfSet net sets (events es xs) t s ≤ 67108864
+    count-small t =
+        let long = laid-out-length sets (events es xs) (events-long accepted p) s in
+        let few : setSize sets s ≤ maxEvents = omega (arith, inside, start-next sets s, accepted .are-events .few) in
+        rw (← (set-count net sets (events es xs) t s)) (omega (arith, pairs-most net (laidOutSet sets (events es xs) s) t 8192 (omega arith)))
+
+    pub sum-fits : (t : ℕ) → SumFits net edges offsets bounds (from-run s) (from-run (suc s)) t
+    sum-fits t =
+        let total = set-total t in
+        record {
+          begins = omega (arith, begins-at, ends-at, start-next sets s);
+          themselves = omega (arith, begins-at, ends-at, start-next sets s);
+          small = rw (other-pairs t) (omega (arith, count-small t));
+        }
+
+    pub row-ready : Stored edges offsets bounds table → RowReady net table edges offsets bounds ts (from-run s) (from-run (suc s))
+    row-ready stored = record { ready-at = runs-ready stored; fits-at = λ k h. sum-fits (getD ts k 0) }
+
+    -- the set's row
+    pub row-is : otherRow net edges offsets bounds ts (from-run s) (from-run (suc s)) ≡ countRow net sets (events es xs) ts s
+    unfolding otherRow countRow
+    row-is = map-same ts
+      where
+        map-same : (l : List ℕ) → map (λ t. otherPairs net edges offsets bounds t (from-run s) (from-run (suc s))) l ≡ map (λ t. countOfSet net sets (events es xs) t s) l
+        map-same l = ap (λ (f : ℕ → ℕ). map f l) (λ k t. other-pairs t k)
