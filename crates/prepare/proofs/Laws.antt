@@ -16,3 +16,4 @@ pub mod RunEvents
 pub mod CountRows
 pub mod RunPairs
 pub mod SetPairs
+pub mod AllSets
