@@ -7,3 +7,6 @@ pub mod Positions
 pub mod Kinds
 pub mod Marks
 pub mod Six
+pub mod OnEdges
+pub mod AnsweringCheck
+pub mod Claim

@@ -3,3 +3,5 @@ pub mod Cursors
 pub mod Sweeping
 pub mod Answers
 pub mod Six
+pub mod Asked
+pub mod OneWay

@@ -1,3 +1,4 @@
 // Neighbour sharing: pair counts by cursors that are moved and never searched anew.
+mod asked;
 mod cursor;
 mod sweep;

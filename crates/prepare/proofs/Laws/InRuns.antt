@@ -43,7 +43,7 @@ in-order-at (e ∷ []) o (suc i) (suc j) l h = absurd (omega arith)
 in-order-at (e ∷ f ∷ es) (more s o) (suc i) (suc j) l h = in-order-at (f ∷ es) o i j (omega arith) (omega arith)
 
 -- on one edge, that is a matter of offsets
-same-edge : (e f : Event) → e .edge ≡ f .edge → before f e ≡ false → e .offset ≤ f .offset
+pub same-edge : (e f : Event) → e .edge ≡ f .edge → before f e ≡ false → e .offset ≤ f .offset
 unfolding before
 same-edge e f p b = go (ltb (f .edge) (e .edge)) b
   where

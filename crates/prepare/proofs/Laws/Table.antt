@@ -30,7 +30,7 @@ module _ (net : Network) (bound : ℕ) (wanted old : List ℕ) where
   unfolding distanceRow
   row-length u = map-length _ (numbersFrom 1 (net .nodes)) ∙ numbers-length 1 (net .nodes)
 
-  row-entry : (u v : ℕ) → IsNode net v → getD (distanceRow net bound u) (pred v) 0 ≡ code (boundedDistance net bound u v)
+  pub row-entry : (u v : ℕ) → IsNode net v → getD (distanceRow net bound u) (pred v) 0 ≡ code (boundedDistance net bound u v)
   unfolding distanceRow
   row-entry u v node =
       from-numbers _ 1 (net .nodes) (pred v) (omega (arith, node .from-one, node .to-nodes))

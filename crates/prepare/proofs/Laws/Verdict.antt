@@ -18,12 +18,12 @@ use Rattle.model.specs.declared.check.Check.the-variants.{Accepted, Refused}
 use Rattle.prepare.specs.Counts.{countsCheck}
 
 -- a check that either accepts or refuses with 2 at 0, in front of one that refuses so
-two-or-accepted : (b : Bool) (next : Check) → next ≡ Refused listsDiffer 0 → orElse (unless b listsDiffer 0) next ≡ Refused listsDiffer 0
+pub two-or-accepted : (b : Bool) (next : Check) → next ≡ Refused listsDiffer 0 → orElse (unless b listsDiffer 0) next ≡ Refused listsDiffer 0
 unfolding orElse unless
 two-or-accepted true next e = e
 two-or-accepted false next e = refl
 
-or-else-assoc : (a b c : Check) → orElse (orElse a b) c ≡ orElse a (orElse b c)
+pub or-else-assoc : (a b c : Check) → orElse (orElse a b) c ≡ orElse a (orElse b c)
 unfolding orElse
 or-else-assoc Accepted b c = refl
 or-else-assoc (Refused n p) b c = refl

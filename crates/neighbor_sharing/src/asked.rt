@@ -1,0 +1,81 @@
+// What is asked of two edges: the checks, and the codes between their ends.
+use model::Check;
+ghost use mathlib.Core.Bool.{_&&_};
+ghost use mathlib.Core.Path.{_≡_};
+ghost use Prim.Native.Nat.{pred, _*_, _≤_};
+ghost use lib.Dec.{eqb, leb};
+ghost use lib.ListN.{length, getD};
+ghost use Rattle.model.specs.Counting.{one-if};
+ghost use Rattle.model.specs.Events.{having, setSize};
+ghost use Rattle.model.specs.Network.{network};
+ghost use Rattle.neighbor_sharing.specs.Answers.{cursorsCheck};
+ghost use Rattle.neighbor_sharing.specs.Asked.{hasRooms};
+
+// Positions, and sums of moves, for each event of the first edge.
+const CURSORS: usize = 6;
+
+// 1 where two numbers are equal, else 0.
+fn one_if_equal(a: u32, b: u32) -> usize
+    ensures { λ r. ⌜ r ≡ one-if (eqb a b) ⌝ }
+{
+    if a == b { 1 } else { 0 }
+}
+
+// How many events lie on an edge.
+fn count_on(edges: &[u32], edge: u32) -> usize
+    ensures { λ r. ⌜ r ≡ setSize (now (edges .entry)) edge ⌝ }
+{
+    let mut count: usize = 0;
+    let mut k = 0;
+    while k < edges.len() {
+        count += one_if_equal(edges[k], edge);
+        k += 1;
+    }
+    count
+}
+
+// Lists of events that belong together, room for six positions at each event of the first edge, and for six sums of moves.
+fn has_rooms(edges: &[u32], offsets: &[u32], edge1: u32, positions: &[u32], moves: &[u32]) -> bool
+    ensures { λ r. ⌜ r ≡ hasRooms (now (edges .entry)) (now (offsets .entry)) edge1 (now (positions .entry)) (now (moves .entry)) ⌝ }
+{
+    if edges.len() != offsets.len() {
+        return false;
+    }
+    let count = count_on(edges, edge1);
+    if positions.len() / CURSORS < count {
+        return false;
+    }
+    CURSORS <= moves.len()
+}
+
+// 2, 6 to 9, 13 for the two edges, 13 to 15 and 17. Every refusal 2 is at place 0, so that the rooms may be looked at first;
+// an edge's offset 0 is never beyond it, so that the check of two locations is one of two edges.
+pub(crate) fn check_cursors(
+    nodes: u32,
+    firsts: &[u32],
+    seconds: &[u32],
+    lengths: &[u32],
+    edges: &[u32],
+    offsets: &[u32],
+    edge1: u32,
+    edge2: u32,
+    positions: &[u32],
+    moves: &[u32],
+) -> Check
+    ensures { λ r. ⌜ r ≡ cursorsCheck (network nodes (now (firsts .entry)) (now (seconds .entry)) (now (lengths .entry))) (now (edges .entry)) (now (offsets .entry)) edge1 edge2 (now (positions .entry)) (now (moves .entry)) ⌝ }
+{
+    if !has_rooms(edges, offsets, edge1, positions, moves) {
+        return Check::Refused(Check::LISTS_DIFFER, 0);
+    }
+    let named = validate::check_locations(nodes, firsts, seconds, lengths, edge1, 0, edge2, 0);
+    if let Check::Refused(_, _) = named {
+        return named;
+    }
+    validate::check_laid_out(nodes, firsts, seconds, lengths, edges, offsets, edge1)
+}
+
+// The codes of the distances from one node to the two ends of an edge.
+pub struct EndCodes {
+    pub first: u32,
+    pub second: u32,
+}
