@@ -9,4 +9,5 @@ pub mod Marks
 pub mod Six
 pub mod OnEdges
 pub mod AnsweringCheck
+pub mod AnsweringEnds
 pub mod Claim

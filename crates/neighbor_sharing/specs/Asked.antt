@@ -41,6 +41,14 @@ pub record EdgesAsked (net : Network) (i j : ℕ) (row : List ℕ) : Type 0 wher
   pub second-edge : j < edges net
   pub room : net .nodes ≤ length row
 
+-- the same of two edges by their numbers, with no row
+pub record TwoEdges (net : Network) (e f : ℕ) : Type 0 where
+  pub accepted : networkCheck net ≡ Accepted
+  pub first-from : 1 ≤ e
+  pub first-to : e ≤ edges net
+  pub second-from : 1 ≤ f
+  pub second-to : f ≤ edges net
+
 -- what the sweep is told of the edges at the indices i and j
 pub record EdgesFound (net : Network) (bound i j : ℕ) (w : Edges) : Type 0 where
   pub long1-is : w .long1 ≡ size net i

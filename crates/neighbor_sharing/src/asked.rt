@@ -1,5 +1,7 @@
 // What is asked of two edges: the checks, and the codes between their ends.
+use crate::sweep::Edges;
 use model::Check;
+use model::Network;
 ghost use mathlib.Core.Bool.{_&&_};
 ghost use mathlib.Core.Path.{_≡_};
 ghost use Prim.Native.Nat.{pred, _*_, _≤_};
@@ -9,7 +11,7 @@ ghost use Rattle.model.specs.Counting.{one-if};
 ghost use Rattle.model.specs.Events.{having, setSize};
 ghost use Rattle.model.specs.Network.{network};
 ghost use Rattle.neighbor_sharing.specs.Answers.{cursorsCheck};
-ghost use Rattle.neighbor_sharing.specs.Asked.{hasRooms};
+ghost use Rattle.neighbor_sharing.specs.Asked.{hasRooms, EndsAsked, EndsReached, EdgesAsked, EdgesFound, TwoEdges};
 
 // Positions, and sums of moves, for each event of the first edge.
 const CURSORS: usize = 6;
@@ -78,4 +80,78 @@ pub(crate) fn check_cursors(
 pub struct EndCodes {
     pub first: u32,
     pub second: u32,
+}
+
+// Node v's entry of a row.
+fn code_of(row: &[u32], v: u32) -> u32
+    requires { ⌜ (1 ≤ v) × (v ≤ length (now row)) ⌝ }
+    ensures { λ r. ⌜ r ≡ getD (now (row .entry)) (pred v) 0 ⌝ }
+{
+    row[v as usize - 1]
+}
+
+// A search from a node, and the codes to both ends of the edge at an index.
+fn to_ends(
+    nodes: u32,
+    firsts: &[u32],
+    seconds: &[u32],
+    lengths: &[u32],
+    source: u32,
+    bound: u32,
+    j: usize,
+    row: &mut [u32],
+) -> EndCodes
+    requires { ⌜ EndsAsked (network nodes (now firsts) (now seconds) (now lengths)) source j (now row) ⌝ }
+    ensures { λ r. ⌜ EndsReached (network nodes (now (firsts .entry)) (now (seconds .entry)) (now (lengths .entry))) bound source j r ⌝ }
+{
+    distance::distances_from(nodes, firsts, seconds, lengths, source, bound, row);
+    let first = code_of(row, firsts[j]);
+    let second = code_of(row, seconds[j]);
+    EndCodes { first, second }
+}
+
+// The lengths of the edges at two indices, and the codes between their ends.
+fn edges_with(
+    nodes: u32,
+    firsts: &[u32],
+    seconds: &[u32],
+    lengths: &[u32],
+    bound: u32,
+    i: usize,
+    j: usize,
+    row: &mut [u32],
+) -> Edges
+    requires { ⌜ EdgesAsked (network nodes (now firsts) (now seconds) (now lengths)) i j (now row) ⌝ }
+    ensures { λ r. ⌜ EdgesFound (network nodes (now (firsts .entry)) (now (seconds .entry)) (now (lengths .entry))) bound i j r ⌝ }
+{
+    let from_first = to_ends(nodes, firsts, seconds, lengths, firsts[i], bound, j, row);
+    let from_second = to_ends(nodes, firsts, seconds, lengths, seconds[i], bound, j, row);
+    Edges {
+        long1: lengths[i],
+        long2: lengths[j],
+        same: i == j,
+        ff: from_first.first,
+        fs: from_first.second,
+        sf: from_second.first,
+        ss: from_second.second,
+    }
+}
+
+// The same of two edges named by their numbers.
+pub(crate) fn edges_between(
+    nodes: u32,
+    firsts: &[u32],
+    seconds: &[u32],
+    lengths: &[u32],
+    bound: u32,
+    edge1: u32,
+    edge2: u32,
+) -> Edges
+    requires { ⌜ TwoEdges (network nodes (now firsts) (now seconds) (now lengths)) edge1 edge2 ⌝ }
+    ensures { λ r. ⌜ EdgesFound (network nodes (now (firsts .entry)) (now (seconds .entry)) (now (lengths .entry))) bound (pred edge1) (pred edge2) r ⌝ }
+{
+    let i = edge1 as usize - 1;
+    let j = edge2 as usize - 1;
+    let mut row = [0u32; Network::MAX_NODES as usize];
+    edges_with(nodes, firsts, seconds, lengths, bound, i, j, &mut row)
 }
