@@ -10,4 +10,5 @@ pub mod Six
 pub mod OnEdges
 pub mod AnsweringCheck
 pub mod AnsweringEnds
+pub mod Answering
 pub mod Claim

@@ -6,6 +6,7 @@ use mathlib.Core.Path.{_≡_}
 use Prim.Native.Nat.{ℕ, _*_, _≤_, _<_}
 use lib.Dec.{eqb, leb}
 use lib.ListN.{length}
+use Rattle.model.specs.Answer.{written}
 use Rattle.model.specs.Checks.{networkCheck}
 use Rattle.model.specs.Distance.{code}
 use Rattle.model.specs.Events.{having}
@@ -13,6 +14,7 @@ use Rattle.model.specs.Location.{Side, endNode}
 use Rattle.model.specs.Network.{Network, IsNode, edges, first, second, size}
 use Rattle.model.specs.NodeDistance.{boundedDistance}
 use Rattle.model.specs.declared.check.Check.the-variants.{Accepted}
+use Rattle.neighbor_sharing.specs.Answers.{cursorPositions, cursorMoves}
 use Rattle.neighbor_sharing.specs.Six.{codeBetween}
 use Rattle.neighbor_sharing.specs.declared.asked.EndCodes.{EndCodes}
 use Rattle.neighbor_sharing.specs.declared.sweep.Edges.{Edges}
@@ -55,3 +57,8 @@ pub record EdgesFound (net : Network) (bound i j : ℕ) (w : Edges) : Type 0 whe
   pub long2-is : w .long2 ≡ size net j
   pub same-is : w .same ≡ eqb i j
   pub codes-are : (s s′ : Side) → codeBetween w s s′ ≡ code (boundedDistance net bound (endNode net i s) (endNode net j s′))
+
+-- what the sweep leaves in the answer lists, what is asked being accepted
+pub record CursorsWritten (net : Network) (es xs : List ℕ) (e f t bound : ℕ) (ps ms ps′ ms′ : List ℕ) : Type 0 where
+  pub positions-are : ps′ ≡ written Accepted (cursorPositions net es xs e f t bound) ps
+  pub moves-are : ms′ ≡ written Accepted (cursorMoves net es xs e f t bound) ms

@@ -2,3 +2,6 @@
 mod asked;
 mod cursor;
 mod sweep;
+mod two_edges;
+
+pub use two_edges::cursors;
