@@ -1,8 +1,7 @@
 -- What the sweep is told of two edges, and what it leaves: the positions and moves that the definitions say.
-use mathlib.Core.Bool.{Bool}
 use mathlib.Core.List.{List}
-use mathlib.Core.Path.{_≡_, _∙_, refl, sym, ap, ap₂}
-use Prim.Native.Nat.{ℕ, zero, suc, pred, _≤_}
+use mathlib.Core.Path.{_≡_, _∙_, refl, sym, ap}
+use Prim.Native.Nat.{ℕ, pred, _≤_}
 use native.Mathlib.Decide.{ℕ-discrete}
 use native.Mathlib.Omega.{arith}
 use borrow.Author.Tests.{eq-eqb, ne-eqb}
@@ -14,7 +13,7 @@ use Rattle.model.specs.Checks.{laidOutCheck}
 use Rattle.model.specs.Distance.{Distance, metres, none, code}
 use Rattle.model.specs.Events.{having}
 use Rattle.model.specs.Location.{Side, at-first, at-second, endNode}
-use Rattle.model.specs.Network.{Network, size}
+use Rattle.model.specs.Network.{Network}
 use Rattle.model.specs.NodeDistance.{boundedDistance}
 use Rattle.model.specs.declared.check.Check.{Check}
 use Rattle.model.specs.declared.check.Check.the-variants.{Accepted, Refused}

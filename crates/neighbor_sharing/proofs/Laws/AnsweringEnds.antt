@@ -1,7 +1,7 @@
 -- The codes between the ends of two edges, found by a search from each end of the first.
 use mathlib.Core.List.{List, [], _++_}
-use mathlib.Core.Path.{_≡_, _∙_, refl, sym, ap}
-use Prim.Native.Nat.{ℕ, suc, pred, _-_, _≤_, _<_}
+use mathlib.Core.Path.{_≡_, _∙_, refl, ap}
+use Prim.Native.Nat.{ℕ, pred, _-_, _<_}
 use native.Mathlib.Numerals.{sub-one}
 use native.Mathlib.Omega.{arith}
 use borrow.Author.Tests.{le-leb}
@@ -16,7 +16,7 @@ use Rattle.model.specs.Checks.{networkCheck, networkValues, roomCheck, loneNode
 use Rattle.model.specs.Distance.{code}
 use Rattle.model.specs.Limits.{maxNodes}
 use Rattle.model.specs.Location.{Side, at-first, at-second, endNode}
-use Rattle.model.specs.Network.{Network, IsNode, edges, first, second, size}
+use Rattle.model.specs.Network.{Network, IsNode, first, second, size}
 use Rattle.model.specs.NodeDistance.{boundedDistance}
 use Rattle.model.specs.Refusal.{listsDiffer, badNode}
 use Rattle.model.specs.declared.check.Check.{Check}

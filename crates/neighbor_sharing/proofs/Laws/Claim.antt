@@ -5,7 +5,7 @@ use native.Mathlib.Omega.{arith}
 use lib.ListN.{length}
 use Rattle.model.proofs.Laws.Counting.{count-at-most}
 use Rattle.model.specs.Events.{events, having, InOrder}
-use Rattle.model.specs.Location.{Side, at-second, endNode}
+use Rattle.model.specs.Location.{at-second, endNode}
 use Rattle.model.specs.Network.{Network, size}
 use Rattle.model.specs.NodeDistance.{boundedDistance}
 use Rattle.neighbor_sharing.specs.Answers.{routePositions}

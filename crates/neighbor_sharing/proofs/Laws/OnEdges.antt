@@ -1,7 +1,7 @@
 -- What lies on one edge of events laid out: offsets in rising order, none of them beyond the edge.
 use mathlib.Core.Bool.{Bool, true, false, cond}
 use mathlib.Core.List.{List, [], _∷_}
-use mathlib.Core.Path.{_≡_, _∙_, refl, sym, ap, ap₂}
+use mathlib.Core.Path.{_≡_, _∙_, refl, sym, ap₂}
 use Prim.Native.Nat.{ℕ, zero, suc, pred, _≤_, _<_}
 use native.Mathlib.Nat.{not-suc-le-zero}
 use native.Mathlib.Omega.{arith}
@@ -11,7 +11,6 @@ use lib.ListN.{length, getD}
 use Rattle.model.proofs.Laws.Checks.{LaidOutAccepted}
 use Rattle.model.proofs.Laws.Counting.{count-at-most}
 use Rattle.model.specs.Events.{event, events, having, before, setSize, InOrder}
-use Rattle.model.specs.Limits.{maxEvents}
 use Rattle.model.specs.Network.{Network, size}
 use Rattle.model.specs.PairCount.{eventAt}
 use Rattle.neighbor_sharing.specs.Six.{Laid}
