@@ -13,7 +13,7 @@ ghost use Rattle.model.specs.Network.{network};
 ghost use Rattle.neighbor_sharing.specs.Answers.{cursorsCheck};
 ghost use Rattle.neighbor_sharing.specs.Asked.{hasRooms, EndsAsked, EndsReached, EdgesAsked, EdgesFound, TwoEdges};
 
-// Positions, and sums of moves, for each event of the first edge.
+// The cursors of two edges: four of routes and two of the window.
 const CURSORS: usize = 6;
 
 // 1 where two numbers are equal, else 0.
