@@ -6,4 +6,3 @@ pub mod Reach
 pub mod Pairs
 pub mod Near
 pub mod Storage
-pub mod Sets

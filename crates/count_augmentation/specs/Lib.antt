@@ -3,4 +3,4 @@ pub mod Augmented
 pub mod Storing
 pub mod Reach
 pub mod Pairs
-pub mod Sets
+pub mod Runs

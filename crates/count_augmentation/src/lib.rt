@@ -3,4 +3,5 @@ mod look_up;
 mod number;
 mod pairs;
 mod reach;
+mod runs;
 mod store;

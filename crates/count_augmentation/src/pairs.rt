@@ -2,12 +2,11 @@
 ghost use mathlib.Core.Bool.{true};
 ghost use mathlib.Core.List.{List};
 ghost use mathlib.Core.Path.{_≡_};
-ghost use Prim.Native.Nat.{ℕ, suc, pred, _+_, _*_, _≤_, _<_};
+ghost use Prim.Native.Nat.{ℕ, pred, _+_, _*_, _≤_, _<_};
 ghost use lib.ListN.{length, getD};
-ghost use Rattle.model.specs.Network.{network, edges};
-ghost use Rattle.count_augmentation.specs.Pairs.{edgePair, EndTable, reachedBy, reachedPairs, TwoRuns, RunAt, runPairs};
+ghost use Rattle.model.specs.Network.{network};
+ghost use Rattle.count_augmentation.specs.Pairs.{edgePair, EndTable, reachedBy, reachedPairs, TwoRuns};
 ghost use Rattle.count_augmentation.specs.Reach.{Run};
-use crate::number::wide;
 use crate::reach::count_reached;
 use crate::reach::reach;
 use crate::reach::reach_by;
@@ -135,20 +134,4 @@ fn count_event(
         threshold,
         offset,
     )
-}
-
-// The place at which a run begins, or the one before it ends.
-pub(crate) fn bound(bounds: &[u32], r: usize) -> usize
-    requires { ⌜ r < length (now bounds) ⌝ }
-    ensures { λ n. ⌜ n ≡ getD (now (bounds .entry)) r 0 ⌝ }
-{
-    wide(bounds[r])
-}
-
-// The index of the edge on which an event lies.
-fn edge_index(edges: &[u32], k: usize) -> usize
-    requires { ⌜ (k < length (now edges)) × (1 ≤ getD (now edges) k 0) ⌝ }
-    ensures { λ r. ⌜ r ≡ pred (getD (now (edges .entry)) k 0) ⌝ }
-{
-    wide(edges[k]) - 1
 }

@@ -4,15 +4,17 @@ use mathlib.Core.Logic.{⊎-elim}
 use mathlib.Core.Path.{_≡_, refl, sym, ap, ap₂, _∙_}
 use Prim.Native.Nat.{ℕ, suc, _+_, _-_, _≤_, _<_}
 use native.Mathlib.Nat.{eq-or-lt-of-le}
+use native.Mathlib.Numerals.{add-one}
 use native.Mathlib.Omega.{arith}
 use borrow.Rule.Slice.PartMut.{putMid, take-put, same-len-mid}
-use lib.ListN.{length, getD, take, drop, length-take, length-drop}
+use lib.ListN.{length, getD, take, drop, length-take, length-drop, length-append}
 use lib.Seq.{take-at, drop-at, length-take-le}
 use Rattle.model.proofs.Laws.Pieces.{rise}
+use Rattle.model.specs.Limits.{maxEvents}
 use Rattle.prepare.proofs.Laws.RunEvents.{part-front}
-use Rattle.count_augmentation.specs.Pairs.{partOf, RunStored}
-use Rattle.count_augmentation.specs.Sets.{Each, RunStorable, AllStored}
-use Rattle.count_augmentation.specs.Storing.{OnEdge, Storable, NumbersStored}
+use Rattle.prepare.specs.RunPairs.{partOf}
+use Rattle.count_augmentation.specs.Runs.{RunStorable, RunsStorable, RunStored, RunsStored}
+use Rattle.count_augmentation.specs.Storing.{Rising, OnEdge, Storable, NumbersStored}
 
 -- a part that has been put back
 pub put-part : (a k : ℕ) (l part : List ℕ) → a ≤ length l → length part ≡ k → take k (drop a (putMid a k l part)) ≡ part
@@ -28,80 +30,127 @@ kept-part a k l part b m h u =
 pub part-length : (a b : ℕ) (l : List ℕ) → b ≤ length l → length (take (b - a) (drop a l)) ≡ b - a
 part-length a b l h = simp (length-take, length-drop) (omega arith)
 
-module _ (xs bounds : List ℕ) where
-  abbrev bound : ℕ → ℕ
-  bound r = getD bounds r 0
+-- a part is as long as it was, for the whole is
+put-length : (from to : ℕ) (l part : List ℕ) → from ≤ to → to ≤ length l → length (putMid from (to - from) l part) ≡ length l → length part ≡ to - from
+put-length from to l part up within e =
+    omega (arith, simp (length-append, length-take, length-drop) at e)
 
-  pub none-stored : (near-first near-second : List ℕ) (from : ℕ) → AllStored xs bounds near-first near-second from from
-  none-stored near-first near-second from = record { at = λ r l h. absurd (omega arith) }
+-- the runs from r up to before k are stored, in lists as long as they were
+pub record StoredTo (xs bounds first₀ second₀ : List ℕ) (r k : ℕ) (first second : List ℕ) : Type 0 where
+  pub first-long : length first ≡ length first₀
+  pub second-long : length second ≡ length second₀
+  pub runs : RunsStored xs bounds first second r k
 
-  -- what is asked of a run, of lists of the same lengths
-  pub still-storable : (f s f′ s′ : List ℕ) (from to : ℕ) → length f′ ≡ length f → length s′ ≡ length s → Each (RunStorable xs bounds f s) bounds from to → (r : ℕ) → from ≤ r → r < to → RunStorable xs bounds f′ s′ r
-  still-storable f s f′ s′ from to hf hs each r l h =
-      let run = each .at r l h in
+-- run k is cut out: from one place up to before another, all within the lists
+pub record RunCut (xs first second : List ℕ) (from to : ℕ) : Type 0 where
+  pub in-order : from ≤ to
+  pub in-offsets : to ≤ length xs
+  pub in-first : to ≤ length first
+  pub in-second : to ≤ length second
+  pub few : to ≤ maxEvents
+  pub rising : Rising (take (to - from) (drop from xs))
+
+pub none-stored : (xs bounds first second : List ℕ) (r : ℕ) → StoredTo xs bounds first second r r first second
+none-stored xs bounds first second r =
+    record { first-long = refl; second-long = refl; runs = record { at = λ k l h. absurd (omega arith) } }
+
+-- one run to store
+module _ {xs first second : List ℕ} {from to : ℕ} (cut : RunCut xs first second from to) where
+  pub storable : (near : List ℕ) → to ≤ length near → Storable (take (to - from) (drop from xs)) (take (to - from) (drop from near))
+  storable near h =
+      let long = part-length from to xs (cut .in-offsets) in
       record {
-        begins = run .begins;
+        rising = cut .rising;
+        few = rw long (omega (arith, cut .few));
+        room = part-length from to near h ∙ sym long;
+      }
+
+-- a turn of the loop over runs
+module _ {xs bounds first₀ second₀ : List ℕ} {r q : ℕ} (asked : RunsStorable xs bounds first₀ second₀ r q) {k : ℕ} {first second : List ℕ} (so-far : StoredTo xs bounds first₀ second₀ r k first second) (low : r ≤ k) (high : k < q) where
+  abbrev bound : ℕ → ℕ
+  bound i = getD bounds i 0
+
+  abbrev long : ℕ
+  long = bound (suc k) - bound k
+
+  run : RunStorable xs bounds first₀ second₀ k
+  run = asked .at k low high
+
+  in-first : bound (suc k) ≤ length first
+  in-first = omega (arith, run .in-first, so-far .first-long)
+
+  in-second : bound (suc k) ≤ length second
+  in-second = omega (arith, run .in-second, so-far .second-long)
+
+  pub run-cut : (from to : ℕ) → from ≡ getD bounds k 0 → to ≡ getD bounds (k + 1) 0 → RunCut xs first second from to
+  unfolding partOf
+  run-cut from to begins ends =
+      rw (begins, ends, add-one k)
+      record {
+        in-order = run .begins;
         in-offsets = run .in-offsets;
-        in-first = omega (arith, run .in-first);
-        in-second = omega (arith, run .in-second);
+        in-first = in-first;
+        in-second = in-second;
         few = run .few;
         rising = run .rising;
       }
 
-  -- a turn: run r has been stored in its part of each list
-  module _ (f s : List ℕ) (from to r : ℕ) (each : Each (RunStorable xs bounds f s) bounds from to) (low : from ≤ r) (high : r < to) where
-    abbrev long : ℕ
-    long = bound (suc r) - bound r
+  -- earlier runs end before it
+  earlier : (i : ℕ) → r ≤ i → i < k → bound (suc i) ≤ bound k
+  earlier i l h =
+      let end : suc i + (k - suc i) ≡ k = omega arith in
+      rw end at (rise bound (suc i) (k - suc i) (λ j u. asked .at (suc i + j) (omega arith) (omega arith) .begins))
 
-    run : RunStorable xs bounds f s r
-    run = each .at r low high
+  module _ (pf ps : List ℕ) (hf : length pf ≡ long) (hs : length ps ≡ long) where
+    first-in : bound k ≤ length first
+    first-in = omega (arith, run .begins, in-first)
 
-    pub part-storable : (near : List ℕ) → bound (suc r) ≤ length near → Storable (take (bound (suc r) - bound r) (drop (bound r) xs)) (take (bound (suc r) - bound r) (drop (bound r) near))
+    second-in : bound k ≤ length second
+    second-in = omega (arith, run .begins, in-second)
+
+    first-kept : length (putMid (bound k) long first pf) ≡ length first
+    first-kept = same-len-mid (bound k) long first pf (hf ∙ sym (part-length (bound k) (bound (suc k)) first in-first))
+
+    second-kept : length (putMid (bound k) long second ps) ≡ length second
+    second-kept = same-len-mid (bound k) long second ps (hs ∙ sym (part-length (bound k) (bound (suc k)) second in-second))
+
+    newest : ((p : ℕ) → OnEdge p (partOf bounds k xs) → NumbersStored p (partOf bounds k xs) pf ps) → RunStored xs bounds (putMid (bound k) long first pf) (putMid (bound k) long second ps) k
     unfolding partOf
-    part-storable near h =
+    newest stored =
         record {
-          rising = run .rising;
-          few = run .few;
-          room = part-length (bound r) (bound (suc r)) near h ∙ sym (part-length (bound r) (bound (suc r)) xs (run .in-offsets));
+          in-first = rw first-kept in-first;
+          in-second = rw second-kept in-second;
+          stored = λ p on. rw (put-part (bound k) long first pf first-in hf, put-part (bound k) long second ps second-in hs) (stored p on);
         }
 
-    -- earlier runs end before it
-    earlier : (q : ℕ) → from ≤ q → q < r → bound (suc q) ≤ bound r
-    earlier q l h =
-        let end : suc q + (r - suc q) ≡ r = omega arith in
-        rw end at (rise bound (suc q) (r - suc q) (λ k u. each .at (suc q + k) (omega arith) (omega arith) .begins))
-
-    pub one-stored : (pf ps : List ℕ) → length pf ≡ long → length ps ≡ long → AllStored xs bounds f s from r → ((p : ℕ) → OnEdge p (take long (drop (bound r) xs)) → NumbersStored p (take long (drop (bound r) xs)) pf ps) → AllStored xs bounds (putMid (bound r) long f pf) (putMid (bound r) long s ps) from (r + 1)
+    kept : (i : ℕ) → r ≤ i → i < k → RunStored xs bounds (putMid (bound k) long first pf) (putMid (bound k) long second ps) i
     unfolding partOf
-    one-stored pf ps hf hs so-far stored = record { at = λ q l h. ⊎-elim (λ e. rw e newest) (λ u. kept q l u) (eq-or-lt-of-le {n = q} {m = r} (omega arith)) }
-      where
-        first-in : bound r ≤ length f
-        first-in = omega (arith, run .begins, run .in-first)
+    kept i l u =
+        let old = so-far .runs .at i l u in
+        let before = earlier i l u in
+        let up = asked .at i l (omega arith) .begins in
+        record {
+          in-first = rw first-kept (old .in-first);
+          in-second = rw second-kept (old .in-second);
+          stored = λ p on. rw (kept-part (bound k) long first pf (bound i) (bound (suc i) - bound i) first-in (omega arith), kept-part (bound k) long second ps (bound i) (bound (suc i) - bound i) second-in (omega arith)) (old .stored p on);
+        }
 
-        second-in : bound r ≤ length s
-        second-in = omega (arith, run .begins, run .in-second)
+    one-stored : ((p : ℕ) → OnEdge p (partOf bounds k xs) → NumbersStored p (partOf bounds k xs) pf ps) → StoredTo xs bounds first₀ second₀ r (suc k) (putMid (bound k) long first pf) (putMid (bound k) long second ps)
+    one-stored stored =
+        record {
+          first-long = first-kept ∙ so-far .first-long;
+          second-long = second-kept ∙ so-far .second-long;
+          runs = record { at = λ i l h. ⊎-elim (λ e. rw e (newest stored)) (λ u. kept i l u) (eq-or-lt-of-le {n = i} {m = k} (omega arith)) };
+        }
 
-        first-long : length (putMid (bound r) long f pf) ≡ length f
-        first-long = same-len-mid (bound r) long f pf (hf ∙ sym (part-length (bound r) (bound (suc r)) f (run .in-first)))
+  -- run k has been stored in its part of each list
+  pub run-stored : (from to : ℕ) → from ≡ getD bounds k 0 → to ≡ getD bounds (k + 1) 0 → (pf ps : List ℕ) → length (putMid from (to - from) first pf) ≡ length first → length (putMid from (to - from) second ps) ≡ length second → ((p : ℕ) → OnEdge p (take (to - from) (drop from xs)) → NumbersStored p (take (to - from) (drop from xs)) pf ps) → StoredTo xs bounds first₀ second₀ r (k + 1) (putMid from (to - from) first pf) (putMid from (to - from) second ps)
+  unfolding partOf
+  run-stored from to begins ends pf ps =
+      rw (begins, ends, add-one k)
+      (λ (hf : length (putMid (bound k) long first pf) ≡ length first) (hs : length (putMid (bound k) long second ps) ≡ length second) stored.
+      one-stored pf ps (put-length (bound k) (bound (suc k)) first pf (run .begins) in-first hf) (put-length (bound k) (bound (suc k)) second ps (run .begins) in-second hs) stored)
 
-        second-long : length (putMid (bound r) long s ps) ≡ length s
-        second-long = same-len-mid (bound r) long s ps (hs ∙ sym (part-length (bound r) (bound (suc r)) s (run .in-second)))
-
-        newest : RunStored xs bounds (putMid (bound r) long f pf) (putMid (bound r) long s ps) r
-        newest =
-            record {
-              in-first = rw first-long (run .in-first);
-              in-second = rw second-long (run .in-second);
-              stored = λ p on. rw (put-part (bound r) long f pf first-in hf, put-part (bound r) long s ps second-in hs) (stored p on);
-            }
-
-        kept : (q : ℕ) → from ≤ q → q < r → RunStored xs bounds (putMid (bound r) long f pf) (putMid (bound r) long s ps) q
-        kept q l u =
-            let old = so-far .at q l u in
-            let before = earlier q l u in
-            let up = each .at q l (omega arith) .begins in
-            record {
-              in-first = rw first-long (old .in-first);
-              in-second = rw second-long (old .in-second);
-              stored = λ p on. rw (kept-part (bound r) long f pf (bound q) (bound (suc q) - bound q) first-in (omega arith), kept-part (bound r) long s ps (bound q) (bound (suc q) - bound q) second-in (omega arith)) (old .stored p on);
-            }
+-- all runs
+pub all-stored : {xs bounds first₀ second₀ : List ℕ} {r q k : ℕ} {first second : List ℕ} → StoredTo xs bounds first₀ second₀ r k first second → k ≡ q → RunsStored xs bounds first second r q
+all-stored so-far last = rw last at (so-far .runs)
