@@ -6,3 +6,4 @@ pub mod Reach
 pub mod Pairs
 pub mod Near
 pub mod Storage
+pub mod Meeting

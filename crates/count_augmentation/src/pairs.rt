@@ -31,7 +31,7 @@ fn entry(nodes: u32, table: &[u32], u: u32, v: u32) -> u32
 }
 
 // Two edges by their indices.
-fn edge_pair(
+pub(crate) fn edge_pair(
     nodes: u32,
     firsts: &[u32],
     seconds: &[u32],
@@ -79,7 +79,7 @@ fn is_beyond(g: EdgePair, threshold: u32) -> bool
 }
 
 // For each event of a run on the first edge, how many of a run on the second it reaches.
-fn count_run(
+pub(crate) fn count_run(
     g: EdgePair,
     threshold: u32,
     from_offsets: &[u32],

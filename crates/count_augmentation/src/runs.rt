@@ -1,9 +1,13 @@
 // The runs of a set: their numbers stored, and their pairs.
 ghost use mathlib.Core.Path.{_≡_};
-ghost use Prim.Native.Nat.{pred, _≤_, _<_};
+ghost use Prim.Native.Nat.{suc, pred, _≤_, _<_};
 ghost use lib.ListN.{length, getD};
-ghost use Rattle.count_augmentation.specs.Runs.{RunsStorable, RunsStored};
+ghost use Rattle.model.specs.Network.{network};
+ghost use Rattle.prepare.specs.RunPairs.{runPairs, RunsReady};
+ghost use Rattle.count_augmentation.specs.Runs.{RunsStorable, RunStored, RunsStored};
 use crate::number::wide;
+use crate::pairs::count_run;
+use crate::pairs::edge_pair;
 use crate::store::store;
 
 // The place at which a run begins, or the one before it ends.
@@ -45,4 +49,41 @@ pub(crate) fn store_runs(
         );
         k += 1;
     }
+}
+
+// How many events of run b those of run a reach, b no later than a: left at once where no route between their edges is within the
+// threshold.
+fn meet_runs(
+    nodes: u32,
+    firsts: &[u32],
+    seconds: &[u32],
+    lengths: &[u32],
+    table: &[u32],
+    edges: &[u32],
+    offsets: &[u32],
+    bounds: &[u32],
+    near_first: &[u32],
+    near_second: &[u32],
+    threshold: u32,
+    a: usize,
+    b: usize,
+) -> u64
+    requires { ⌜ RunsReady (network nodes (now firsts) (now seconds) (now lengths)) (now table) (now edges) (now offsets) (now bounds) b (suc a) threshold × (b ≤ a) × RunStored (now offsets) (now bounds) (now «near_first») (now «near_second») b ⌝ }
+    ensures { λ x. ⌜ (x ≡ runPairs (network nodes (now (firsts .entry)) (now (seconds .entry)) (now (lengths .entry))) (now (edges .entry)) (now (offsets .entry)) (now (bounds .entry)) threshold a b) × (x ≤ 67108864) ⌝ }
+{
+    let from = bound(bounds, a);
+    let to = bound(bounds, a + 1);
+    let other_from = bound(bounds, b);
+    let other_to = bound(bounds, b + 1);
+    let i = edge_index(edges, from);
+    let j = edge_index(edges, other_from);
+    let g = edge_pair(nodes, firsts, seconds, lengths, table, i, j);
+    count_run(
+        g,
+        threshold,
+        &offsets[from..to],
+        &offsets[other_from..other_to],
+        &near_first[other_from..other_to],
+        &near_second[other_from..other_to],
+    )
 }

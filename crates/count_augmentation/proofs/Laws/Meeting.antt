@@ -1,0 +1,118 @@
+-- Two runs of a set: what is asked to look the one's events up from the other's, and that the pairs found are theirs.
+use mathlib.Core.List.{List}
+use mathlib.Core.Path.{_≡_, refl, sym, ap, _∙_}
+use Prim.Native.Nat.{ℕ, suc, pred, _+_, _-_, _≤_, _<_}
+use native.Mathlib.Numerals.{add-one}
+use native.Mathlib.Omega.{arith}
+use lib.ListN.{length, getD, take, drop}
+use Rattle.model.proofs.Laws.Counting.{sum-below-cong}
+use Rattle.model.specs.Events.{event}
+use Rattle.model.specs.Limits.{maxEvents}
+use Rattle.model.specs.Location.{at-first, at-second, endNode}
+use Rattle.model.specs.Network.{Network, edges, size}
+use Rattle.prepare.proofs.Laws.RunPairs.{run-is, run-codes, part-of-length}
+use Rattle.prepare.specs.RunPairs.{edgeOf, partOf, runPairs, RunsReady}
+use Rattle.count_augmentation.specs.Pairs.{edgePair, EndTable, reachedBy, reachedPairs, TwoRuns}
+use Rattle.count_augmentation.specs.Reach.{reached}
+use Rattle.count_augmentation.specs.Runs.{RunStored}
+use Rattle.count_augmentation.specs.Storing.{OnEdge}
+use Rattle.count_augmentation.specs.declared.pairs.EdgePair.{EdgePair}
+use Rattle.count_augmentation.proofs.Laws.Near.{reached-within}
+use Rattle.count_augmentation.proofs.Laws.Places.{count-places}
+
+-- what is read for runs a and b: where each begins and ends, and the index of its edge
+pub record RunsRead (es bounds : List ℕ) (a b from to other-from other-to i j : ℕ) : Type 0 where
+  pub from-is : from ≡ getD bounds a 0
+  pub to-is : to ≡ getD bounds (a + 1) 0
+  pub other-from-is : other-from ≡ getD bounds b 0
+  pub other-to-is : other-to ≡ getD bounds (b + 1) 0
+  pub edge-is : i ≡ pred (getD es from 0)
+  pub other-edge-is : j ≡ pred (getD es other-from 0)
+
+-- a run cut out of a list that holds all of it
+pub record Within (l : List ℕ) (from to : ℕ) : Type 0 where
+  pub in-order : from ≤ to
+  pub in-list : to ≤ length l
+  pub few : to ≤ maxEvents
+
+module _ {net : Network} {table es xs bounds : List ℕ} {r q t : ℕ} (w : RunsReady net table es xs bounds r q t) where
+  pub end-table : EndTable net table
+  end-table =
+      record {
+        firsts-length = w .firsts-length;
+        seconds-length = w .seconds-length;
+        nodes-to = w .nodes-to;
+        ends = w .ends;
+        room = w .table-room;
+      }
+
+  -- a run's part of a list
+  pub within-list : (l : List ℕ) (k from to : ℕ) → r ≤ k → k < q → getD bounds (suc k) 0 ≤ length l → from ≡ getD bounds k 0 → to ≡ getD bounds (k + 1) 0 → Within l from to
+  within-list l k from to h m fits begins ends =
+      rw (begins, ends, add-one k)
+      (record { in-order = omega (arith, w .begins k h m); in-list = fits; few = omega (arith, w .ends-in k h m, w .few) })
+
+  pub in-offsets : (k : ℕ) → r ≤ k → k < q → getD bounds (suc k) 0 ≤ length xs
+  in-offsets k h m = omega (arith, w .ends-in k h m, w .in-offsets)
+
+  -- a run's edge
+  pub edge-listed : (k from : ℕ) → r ≤ k → k < q → from ≡ getD bounds k 0 → (from < length es) × (1 ≤ getD es from 0)
+  unfolding edgeOf
+  edge-listed k from h m begins =
+      rw begins (omega (arith, w .begins k h m, w .ends-in k h m, w .in-edges), run-is w k h m .edge-from)
+
+  pub edge-named : (k from i : ℕ) → r ≤ k → k < q → from ≡ getD bounds k 0 → i ≡ pred (getD es from 0) → i < edges net
+  unfolding edgeOf
+  edge-named k from i h m begins named =
+      let run = run-is w k h m in
+      rw (named, begins) (omega (arith, run .edge-from, run .edge-to))
+
+  module _ (a b : ℕ) (ha : r ≤ a) (la : a < q) (hb : r ≤ b) (lb : b < q) where
+    abbrev i : ℕ
+    i = pred (edgeOf es bounds a)
+
+    abbrev j : ℕ
+    j = pred (edgeOf es bounds b)
+
+    -- the events that those of run a reach by the table's entries are those within the threshold
+    pairs-reached : reachedPairs (edgePair net table i j) t (partOf bounds a xs) (partOf bounds b xs) ≡ runPairs net es xs bounds t a b
+    unfolding reachedPairs reachedBy reached runPairs edgePair endNode
+    pairs-reached =
+        sum-below-cong (length (partOf bounds a xs)) _ _
+        (λ k h. count-places _ _ (partOf bounds b xs)
+        (λ l m. reached-within net (w .ends) t (w .bound) (w .within-bound) (event (edgeOf es bounds a) (getD (partOf bounds a xs) k 0)) (event (edgeOf es bounds b) (getD (partOf bounds b xs) l 0)) (run-is w a ha la .is-event k h) (run-is w b hb lb .is-event l m) _ _ _ _ (run-codes w a b ha la hb lb at-first at-first) (run-codes w a b ha la hb lb at-first at-second) (run-codes w a b ha la hb lb at-second at-first) (run-codes w a b ha la hb lb at-second at-second)))
+
+    two-runs : {near-first near-second : List ℕ} → RunStored xs bounds near-first near-second b → TwoRuns (edgePair net table i j) (partOf bounds a xs) (partOf bounds b xs) (partOf bounds b near-first) (partOf bounds b near-second)
+    unfolding edgePair
+    two-runs {near-first} {near-second} stored =
+        let run = run-is w a ha la in
+        let other = run-is w b hb lb in
+        let long = sym (other .part-length) in
+        let on : OnEdge (size net j) (partOf bounds b xs) = record { on = other .on-edge } in
+        record {
+          on-edge = record { on = run .on-edge };
+          few = run .few;
+          run = record {
+            rising = record { up = other .rising };
+            on-edge = on;
+            few = other .few;
+            short = other .short;
+            first-length = part-of-length bounds near-first b (stored .in-first) ∙ long;
+            second-length = part-of-length bounds near-second b (stored .in-second) ∙ long;
+            stored = stored .stored _ on;
+          };
+        }
+
+    -- the same as the code reads it
+    module _ {from to other-from other-to e f : ℕ} (read : RunsRead es bounds a b from to other-from other-to e f) (g : EdgePair) (g-is : g ≡ edgePair net table e f) where
+      pub runs-asked : {near-first near-second : List ℕ} → RunStored xs bounds near-first near-second b → TwoRuns g (take (to - from) (drop from xs)) (take (other-to - other-from) (drop other-from xs)) (take (other-to - other-from) (drop other-from near-first)) (take (other-to - other-from) (drop other-from near-second))
+      unfolding partOf edgeOf
+      runs-asked stored =
+          rw (g-is, read .edge-is, read .other-edge-is, read .from-is, read .to-is, read .other-from-is, read .other-to-is, add-one a, add-one b)
+          (two-runs stored)
+
+      pub runs-met : (x : ℕ) → x ≡ reachedPairs g t (take (to - from) (drop from xs)) (take (other-to - other-from) (drop other-from xs)) → x ≡ runPairs net es xs bounds t a b
+      unfolding partOf edgeOf
+      runs-met x e =
+          rw (g-is, read .edge-is, read .other-edge-is, read .from-is, read .to-is, read .other-from-is, read .other-to-is, add-one a, add-one b) at e
+          ∙ pairs-reached
