@@ -7,3 +7,4 @@ pub mod Pairs
 pub mod Near
 pub mod Storage
 pub mod Meeting
+pub mod Totals
