@@ -8,3 +8,4 @@ pub mod Near
 pub mod Storage
 pub mod Meeting
 pub mod Totals
+pub mod Rows

@@ -4,4 +4,7 @@ mod number;
 mod pairs;
 mod reach;
 mod runs;
+mod sets;
 mod store;
+
+pub use sets::counts;
