@@ -9,3 +9,5 @@ pub mod Storage
 pub mod Meeting
 pub mod Totals
 pub mod Rows
+pub mod Verdict
+pub mod Edges

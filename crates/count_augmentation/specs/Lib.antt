@@ -4,3 +4,4 @@ pub mod Storing
 pub mod Reach
 pub mod Pairs
 pub mod Runs
+pub mod Events

@@ -1,4 +1,5 @@
 // Count augmentation: pair counts from stored numbers, looked up by binary search.
+mod events;
 mod look_up;
 mod number;
 mod pairs;

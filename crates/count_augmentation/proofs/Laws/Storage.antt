@@ -31,7 +31,7 @@ pub part-length : (a b : ℕ) (l : List ℕ) → b ≤ length l → length (take
 part-length a b l h = simp (length-take, length-drop) (omega arith)
 
 -- a part is as long as it was, for the whole is
-put-length : (from to : ℕ) (l part : List ℕ) → from ≤ to → to ≤ length l → length (putMid from (to - from) l part) ≡ length l → length part ≡ to - from
+pub put-length : (from to : ℕ) (l part : List ℕ) → from ≤ to → to ≤ length l → length (putMid from (to - from) l part) ≡ length l → length part ≡ to - from
 put-length from to l part up within e =
     omega (arith, simp (length-append, length-take, length-drop) at e)
 

@@ -1,0 +1,178 @@
+-- A laid-out set stored edge by edge: the events of an edge are a part of the list.
+use mathlib.Core.Bool.{Bool, true, false, cond}
+use mathlib.Core.List.{List, [], _∷_}
+use mathlib.Core.Path.{_≡_, refl, sym, ap, ap₂, _∙_}
+use Prim.Native.Nat.{ℕ, zero, suc, pred, _+_, _-_, _≤_, _<_}
+use native.Mathlib.Decide.{decLt, ℕ-discrete}
+use native.Mathlib.Omega.{arith}
+use borrow.Author.Tests.{lt-ltb, le-ltb, le-leb, lt-leb}
+use borrow.Rule.Slice.PartMut.{putMid, take-put}
+use lib.ListN.{length, getD, take, drop}
+use lib.Seq.{getD-take, getD-drop}
+use Rattle.model.proofs.Laws.Pieces.{part}
+use Rattle.model.proofs.Laws.Stretch.{before-edge, through-edge, having-part, rise-by-one}
+use Rattle.model.specs.Events.{having}
+use Rattle.count_augmentation.specs.Events.{LaidOut, RunEnds, EventsStored}
+use Rattle.count_augmentation.specs.Storing.{Rising, OnEdge, NumbersStored, atMost, atLeast}
+use Rattle.count_augmentation.proofs.Laws.Places.{count-before, stored-first, stored-second}
+use Rattle.count_augmentation.proofs.Laws.Storage.{RunCut, part-length, put-part, put-length}
+
+-- what stands in a part
+part-at : (from to i : ℕ) (l : List ℕ) → i < to - from → getD (part from to l) i 0 ≡ getD l (from + i) 0
+part-at from to i l h = getD-take (to - from) (drop from l) i 0 h ∙ getD-drop from l i 0
+
+-- what stands in front of a part that has been put back, and in it
+put-before : (a k : ℕ) (l new : List ℕ) (i : ℕ) → a ≤ length l → i < a → getD (putMid a k l new) i 0 ≡ getD l i 0
+put-before a k l new i h u =
+    sym (getD-take a (putMid a k l new) i 0 u) ∙ ap (λ (r : List ℕ). getD r i 0) (take-put a k l new h) ∙ getD-take a l i 0 u
+
+put-inside : (a k : ℕ) (l new : List ℕ) (i : ℕ) → a ≤ length l → length new ≡ k → i < k → getD (putMid a k l new) (a + i) 0 ≡ getD new i 0
+put-inside a k l new i h e u =
+    sym (getD-take k (drop a (putMid a k l new)) i 0 u ∙ getD-drop a (putMid a k l new) i 0)
+    ∙ ap (λ (r : List ℕ). getD r i 0) (put-part a k l new h e)
+
+-- the events in front of a place are stored, and the rest lie on other edges
+pub record StoredUpTo (es xs first₀ second₀ : List ℕ) (from : ℕ) (first second : List ℕ) : Type 0 where
+  pub within : from ≤ length es
+  pub first-long : length first ≡ length first₀
+  pub second-long : length second ≡ length second₀
+  pub apart : (i j : ℕ) → i < from → from ≤ j → j < length es → getD es i 0 < getD es j 0
+  pub events : EventsStored es xs from first second
+
+pub nothing-stored : (es xs first second : List ℕ) → StoredUpTo es xs first second 0 first second
+nothing-stored es xs first second =
+    record {
+      within = omega arith;
+      first-long = refl;
+      second-long = refl;
+      apart = λ i j h. absurd (omega arith);
+      events = record { first-at = λ k h. absurd (omega arith); second-at = λ k h. absurd (omega arith) };
+    }
+
+pub all-events : {es xs first₀ second₀ first second : List ℕ} {from : ℕ} → StoredUpTo es xs first₀ second₀ from first second → length es ≤ from → EventsStored es xs (length es) first second
+all-events {es} {from = from} so-far h =
+    let end : from ≡ length es = omega (arith, so-far .within) in rw end at (so-far .events)
+
+-- a turn: the events from one place up to before another
+module _ {es xs first₀ second₀ : List ℕ} (laid : LaidOut es xs) (first-room : length first₀ ≡ length es) (second-room : length second₀ ≡ length es)
+    {from : ℕ} {first second : List ℕ} (so-far : StoredUpTo es xs first₀ second₀ from first second) {to : ℕ} (run : RunEnds es from to) where
+  -- later events lie on later edges
+  beyond : (k : ℕ) → to ≤ k → k < length es → getD es from 0 < getD es k 0
+  beyond k h l =
+      omega (arith, laid .edges-rise from to (omega (arith, run .further)) (omega arith), laid .edges-rise to k h l, run .ends (omega arith))
+
+  before-is : before-edge (getD es from 0) es ≡ from
+  before-is =
+      count-before _ es from (so-far .within)
+      (λ k l. lt-ltb _ _ (so-far .apart k from l (omega arith) (omega (arith, run .further, run .within))))
+      (λ k l m. le-ltb (getD es k 0) (getD es from 0) (laid .edges-rise from k l m))
+
+  through-is : through-edge (getD es from 0) es ≡ to
+  through-is =
+      count-before _ es to (run .within)
+      (λ k l. le-leb (getD es k 0) (getD es from 0) (omega (arith, laid .edges-rise k (pred to) (omega arith) (omega (arith, run .within)), run .one-edge (pred to) (omega (arith, run .further)) (omega arith))))
+      (λ k l m. lt-leb (getD es k 0) (getD es from 0) (beyond k l m))
+
+  -- what lies on the edge is the part
+  on-edge-part : having (getD es from 0) es xs ≡ part from to xs
+  on-edge-part =
+      having-part (getD es from 0) es xs (laid .same-length) (laid .edges-rise) ∙ ap₂ (λ (a b : ℕ). part a b xs) before-is through-is
+
+  long : length (part from to xs) ≡ to - from
+  long = part-length from to xs (omega (arith, run .within, laid .same-length))
+
+  rising : Rising (part from to xs)
+  rising = record { up = rise-by-one (part from to xs) (λ k h. step k (omega (arith, long))) }
+    where
+      step : (k : ℕ) → suc k < to - from → getD (part from to xs) k 0 ≤ getD (part from to xs) (suc k) 0
+      step k h =
+          let next : from + suc k ≡ suc (from + k) = omega arith in
+          let inside : suc (from + k) < length es = omega (arith, run .within) in
+          let one = run .one-edge (from + k) (omega arith) (omega arith) in
+          let other = run .one-edge (suc (from + k)) (omega arith) (omega arith) in
+          rw (part-at from to k xs (omega arith), part-at from to (suc k) xs h, next) (laid .offsets-rise (from + k) inside (one ∙ sym other))
+
+  pub edge-cut : RunCut xs first second from to
+  edge-cut =
+      record {
+        in-order = omega (arith, run .further);
+        in-offsets = omega (arith, run .within, laid .same-length);
+        in-first = omega (arith, run .within, so-far .first-long);
+        in-second = omega (arith, run .within, so-far .second-long);
+        few = omega (arith, run .within, laid .few);
+        rising = rising;
+      }
+
+  -- no offset of the part is beyond the last
+  abbrev last : ℕ
+  last = getD (part from to xs) (pred (to - from)) 0
+
+  up-to-last : OnEdge last (part from to xs)
+  up-to-last =
+      record { on = λ k h. rising .up k (pred (to - from)) (omega (arith, long)) (omega (arith, long, run .further)) }
+
+  -- one list of numbers, whichever end it is for
+  module _ (count : List ℕ → ℕ → ℕ) (near new : List ℕ) (fits : to ≤ length near) (kept : length (putMid from (to - from) near new) ≡ length near)
+      (old-at : (k : ℕ) → k < from → getD near k 0 ≡ count (having (getD es k 0) es xs) (getD xs k 0))
+      (new-at : (i : ℕ) → i < length (part from to xs) → getD new i 0 ≡ count (part from to xs) (getD (part from to xs) i 0)) where
+    inside-at : (i : ℕ) → i < to - from → getD (putMid from (to - from) near new) (from + i) 0 ≡ count (having (getD es (from + i) 0) es xs) (getD xs (from + i) 0)
+    inside-at i h =
+        put-inside from (to - from) near new i (omega arith) (put-length from to near new (omega (arith, run .further)) fits kept) h
+        ∙ new-at i (omega (arith, long))
+        ∙ ap₂ count (sym on-edge-part ∙ ap (λ (e : ℕ). having e es xs) (sym (run .one-edge (from + i) (omega arith) (omega arith)))) (part-at from to i xs h)
+
+    numbers-at : (k : ℕ) → k < to → getD (putMid from (to - from) near new) k 0 ≡ count (having (getD es k 0) es xs) (getD xs k 0)
+    numbers-at k h = go (decLt k from)
+      where
+        go : Dec (k < from) → getD (putMid from (to - from) near new) k 0 ≡ count (having (getD es k 0) es xs) (getD xs k 0)
+        go (yes l) = put-before from (to - from) near new k (omega (arith, run .further)) l ∙ old-at k l
+        go (no l) =
+            let on : from + (k - from) ≡ k = omega arith in
+            rw on at (inside-at (k - from) (omega arith))
+
+  pub edge-stored : (pf ps : List ℕ) → length (putMid from (to - from) first pf) ≡ length first → length (putMid from (to - from) second ps) ≡ length second → ((p : ℕ) → OnEdge p (part from to xs) → NumbersStored p (part from to xs) pf ps) → StoredUpTo es xs first₀ second₀ to (putMid from (to - from) first pf) (putMid from (to - from) second ps)
+  edge-stored pf ps hf hs stored =
+      let numbers = stored last up-to-last in
+      record {
+        within = run .within;
+        first-long = hf ∙ so-far .first-long;
+        second-long = hs ∙ so-far .second-long;
+        apart = λ i j h l m. go i j h l m (decLt i from);
+        events = record {
+          first-at = numbers-at atMost first pf (edge-cut .in-first) hf (so-far .events .first-at) (stored-first last (part from to xs) pf ps up-to-last numbers);
+          second-at = numbers-at atLeast second ps (edge-cut .in-second) hs (so-far .events .second-at) (stored-second last (part from to xs) pf ps up-to-last numbers);
+        };
+      }
+    where
+      go : (i j : ℕ) → i < to → to ≤ j → j < length es → Dec (i < from) → getD es i 0 < getD es j 0
+      go i j h l m (yes u) = so-far .apart i j u (omega (arith, run .further)) m
+      go i j h l m (no u) = omega (arith, beyond j l m, run .one-edge i (omega arith) h)
+
+-- the events from one place up to before another lie on one edge
+pub record OneEdge (es : List ℕ) (from to : ℕ) : Type 0 where
+  pub further : from < to
+  pub within : to ≤ length es
+  pub one-edge : (k : ℕ) → from ≤ k → k < to → getD es k 0 ≡ getD es from 0
+
+pub edge-begins : (es : List ℕ) (from : ℕ) → from < length es → OneEdge es from (from + 1)
+edge-begins es from h =
+    record {
+      further = omega arith;
+      within = omega arith;
+      one-edge = λ k l m. let same : k ≡ from = omega arith in ap (λ (n : ℕ). getD es n 0) same;
+    }
+
+module _ {es : List ℕ} {from to : ℕ} (so-far : OneEdge es from to) where
+  pub edge-on : to < length es → getD es to 0 ≡ getD es from 0 → OneEdge es from (to + 1)
+  edge-on h e = record { further = omega (arith, so-far .further); within = omega arith; one-edge = λ k l m. go k l m (ℕ-discrete k to) }
+    where
+      go : (k : ℕ) → from ≤ k → k < to + 1 → Dec (k ≡ to) → getD es k 0 ≡ getD es from 0
+      go k l m (yes same) = rw same e
+      go k l m (no other) = so-far .one-edge k l (omega arith)
+
+  pub edge-ends : (getD es to 0 ≡ getD es from 0 → ⊥) → RunEnds es from to
+  edge-ends other = record { further = so-far .further; within = so-far .within; one-edge = so-far .one-edge; ends = λ h. other }
+
+  pub edge-all : length es ≤ to → RunEnds es from to
+  edge-all h =
+      record { further = so-far .further; within = so-far .within; one-edge = so-far .one-edge; ends = λ l. absurd (omega arith) }

@@ -1,0 +1,65 @@
+// The stored numbers of every event of a laid-out set.
+ghost use mathlib.Core.Path.{_≡_};
+ghost use Prim.Native.Nat.{_<_};
+ghost use lib.ListN.{length};
+ghost use Rattle.model.specs.Network.{network};
+ghost use Rattle.count_augmentation.specs.Augmented.{augmentCheck, Augmented};
+ghost use Rattle.count_augmentation.specs.Events.{LaidOut, RunEnds, EventsStored};
+use crate::store::store;
+use model::Check;
+
+// Where the events on the edge of the one at a place end.
+fn run_end(edges: &[u32], from: usize) -> usize
+    requires { ⌜ from < length (now edges) ⌝ }
+    ensures { λ r. ⌜ RunEnds (now (edges .entry)) from r ⌝ }
+{
+    let edge = edges[from];
+    let mut to = from + 1;
+    while to < edges.len() {
+        if edges[to] != edge {
+            return to;
+        }
+        to += 1;
+    }
+    to
+}
+
+// The stored numbers of all events, edge by edge.
+fn store_events(edges: &[u32], offsets: &[u32], near_first: &mut [u32], near_second: &mut [u32])
+    requires { ⌜ LaidOut (now edges) (now offsets) × (length (now «near_first») ≡ length (now edges)) × (length (now «near_second») ≡ length (now edges)) ⌝ }
+    ensures { λ _. ⌜ EventsStored (now (edges .entry)) (now (offsets .entry)) (length (now (edges .entry))) (now («near_first» .exit)) (now («near_second» .exit)) ⌝ }
+{
+    let mut from = 0;
+    while from < edges.len() {
+        let to = run_end(edges, from);
+        store(
+            &offsets[from..to],
+            &mut near_first[from..to],
+            &mut near_second[from..to],
+        );
+        from = to;
+    }
+}
+
+// 2, 6 to 9, 13 to 15 and 17. Every refusal 2 is at place 0, so that the room may be looked at first. Beside the events one edge
+// is looked at: edge 1, which every network has.
+fn check_augment(
+    nodes: u32,
+    firsts: &[u32],
+    seconds: &[u32],
+    lengths: &[u32],
+    edges: &[u32],
+    offsets: &[u32],
+    near_first: &[u32],
+    near_second: &[u32],
+) -> Check
+    ensures { λ r. ⌜ r ≡ augmentCheck (network nodes (now (firsts .entry)) (now (seconds .entry)) (now (lengths .entry))) (now (edges .entry)) (now (offsets .entry)) (now («near_first» .entry)) (now («near_second» .entry)) ⌝ }
+{
+    if near_first.len() < edges.len() {
+        return Check::Refused(Check::LISTS_DIFFER, 0);
+    }
+    if near_second.len() < edges.len() {
+        return Check::Refused(Check::LISTS_DIFFER, 0);
+    }
+    validate::check_laid_out(nodes, firsts, seconds, lengths, edges, offsets, 1)
+}
