@@ -18,5 +18,6 @@ pub mod CheckParts
 pub mod Checks
 pub mod Pieces
 pub mod Cover
+pub mod Arrival
 pub mod Answer
 pub mod Stretch
