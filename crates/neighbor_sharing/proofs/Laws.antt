@@ -12,3 +12,5 @@ pub mod AnsweringCheck
 pub mod AnsweringEnds
 pub mod Answering
 pub mod Claim
+pub mod Joined
+pub mod Reading

@@ -5,3 +5,4 @@ pub mod Answers
 pub mod Six
 pub mod Asked
 pub mod OneWay
+pub mod Joined

@@ -1,6 +1,7 @@
 // Neighbour sharing: pair counts by cursors that are moved and never searched anew.
 mod asked;
 mod cursor;
+mod joining;
 mod sweep;
 mod two_edges;
 

@@ -1,0 +1,116 @@
+-- The six positions at an event of the first edge say how many events of the second edge some route or the window reaches.
+use mathlib.Core.Bool.{Bool, true, false, not, _&&_, _||_}
+use mathlib.Core.List.{List, [], _∷_}
+use mathlib.Core.Path.{_≡_, _∙_, refl, sym, ap, ap₂}
+use Prim.Native.Nat.{ℕ, zero, suc, _+_, _-_, _≤_, _<_, max}
+use native.Mathlib.Decide.{decLe, decLt}
+use native.Mathlib.Omega.{arith}
+use borrow.Author.Tests.{leb-true, le-leb, lt-leb, ltb-true, lt-ltb, le-ltb}
+use lib.Dec.{leb, ltb}
+use lib.ListN.{length, getD}
+use Rattle.model.specs.Counting.{countIf}
+use Rattle.model.specs.Distance.{Distance, metres, none, plus, within, difference}
+use Rattle.model.specs.Location.{Side, at-first, at-second, gap, reaches}
+use Rattle.model.proofs.Laws.Arrival.{below-max, from-max, by-arrival, in-window, no-place, not-below}
+use Rattle.model.proofs.Laws.Counting.{count-cong, count-mono}
+use Rattle.model.proofs.Laws.Cover.{cover-list, first-places, none-pass}
+use Rattle.model.proofs.Laws.Routes.{some-route}
+use Rattle.neighbor_sharing.proofs.Laws.Nearest.{Down, first-reached, second-reached}
+use Rattle.neighbor_sharing.proofs.Laws.Positions.{reaches-less}
+use Rattle.neighbor_sharing.specs.Answers.{marked, markedIf}
+use Rattle.neighbor_sharing.specs.Cursors.{position, below, upTo}
+use Rattle.neighbor_sharing.specs.Joined.{joined}
+use Rattle.neighbor_sharing.specs.Sweeping.{Ordered}
+
+-- no cursor reaches nothing, so what is written for it counts as position 0
+none-reached : (t p : ℕ) (s : Side) (q : ℕ) (s′ : Side) (ys : List ℕ) (x : ℕ) → position t p s none q s′ ys x ≡ 0
+unfolding position reaches plus within
+none-reached t p s q s′ ys x = none-pass _ ys (λ k h. refl)
+
+pub marked-position : (t p : ℕ) (s : Side) (d : Distance) (q : ℕ) (s′ : Side) (ys : List ℕ) (x : ℕ) → marked d (position t p s d q s′ ys x) - 1 ≡ position t p s d q s′ ys x
+unfolding marked
+marked-position t p s none q s′ ys x = omega (arith, none-reached t p s q s′ ys x)
+marked-position t p s (metres n) q s′ ys x = omega arith
+
+module _ (t p x q : ℕ) (d : Side → Side → Distance) (ys : List ℕ) (o : Ordered ys) where
+  abbrev at : Side → Side → ℕ
+  at s s′ = position t p s (d s s′) q s′ ys x
+
+  abbrev by : Side → Side → ℕ → Bool
+  by s s′ y = reaches t (gap p s x) (d s s′) (gap q s′ y)
+
+  -- one route reaches the first or the last places, by the end at which it arrives
+  down : (s s′ : Side) → Down (λ g. reaches t (gap p s x) (d s s′) g)
+  down s s′ a b h e = reaches-less t (gap p s x) (gap p s x) (d s s′) a b (omega arith) h e
+
+  first-by : (s : Side) (k : ℕ) → k < length ys → by s at-first (getD ys k 0) ≡ ltb k (at s at-first)
+  unfolding position
+  first-by s k h = first-reached (λ g. reaches t (gap p s x) (d s at-first) g) (down s at-first) q ys o k h
+
+  last-by : (s : Side) (k : ℕ) → k < length ys → by s at-second (getD ys k 0) ≡ leb (length ys - at s at-second) k
+  unfolding position
+  last-by s k h = second-reached (λ g. reaches t (gap p s x) (d s at-second) g) (down s at-second) q ys o k h
+
+  -- the two routes that arrive at one end
+  abbrev arrives : Side → ℕ → Bool
+  arrives s′ y = by at-first s′ y || by at-second s′ y
+
+  first-arrives : (k : ℕ) → k < length ys → arrives at-first (getD ys k 0) ≡ ltb k (max (at at-first at-first) (at at-second at-first))
+  first-arrives k h =
+      ap₂ _||_ (first-by at-first k h) (first-by at-second k h) ∙ sym (below-max k (at at-first at-first) (at at-second at-first))
+
+  last-arrives : (k : ℕ) → k < length ys → arrives at-second (getD ys k 0) ≡ leb (length ys - max (at at-first at-second) (at at-second at-second)) k
+  last-arrives k h =
+      ap₂ _||_ (last-by at-first k h) (last-by at-second k h) ∙ sym (from-max (length ys) k (at at-first at-second) (at at-second at-second))
+
+  -- the window's two cursors
+  below-limit : (y : ℕ) → ltb y (x - t) ≡ ltb (y + t) x
+  below-limit y = go (decLt (y + t) x)
+    where
+      go : Dec (y + t < x) → ltb y (x - t) ≡ ltb (y + t) x
+      go (yes h) = lt-ltb y (x - t) (omega arith) ∙ sym (lt-ltb (y + t) x h)
+      go (no h) = le-ltb y (x - t) (omega arith) ∙ sym (le-ltb (y + t) x (omega arith))
+
+  up-to-limit : (y : ℕ) → ltb y (x + t + 1) ≡ leb y (x + t)
+  up-to-limit y = go (decLe y (x + t))
+    where
+      go : Dec (y ≤ x + t) → ltb y (x + t + 1) ≡ leb y (x + t)
+      go (yes h) = lt-ltb y (x + t + 1) (omega arith) ∙ sym (le-leb y (x + t) h)
+      go (no h) = le-ltb y (x + t + 1) (omega arith) ∙ sym (lt-leb y (x + t) (omega arith))
+
+  window-from : (k : ℕ) → k < length ys → leb (x - t) (getD ys k 0) ≡ leb (below t ys x) k
+  unfolding below
+  window-from k h =
+      not-below (x - t) (getD ys k 0)
+      ∙ ap not (below-limit (getD ys k 0) ∙ first-places (λ y. ltb (y + t) x) ys (λ i j l m e. lt-ltb (getD ys i 0 + t) x (omega (arith, ltb-true (getD ys j 0 + t) x e, o .in-order i j l m))) k h)
+      ∙ sym (not-below (countIf (λ y. ltb (y + t) x) ys) k)
+
+  window-to : (k : ℕ) → k < length ys → ltb (getD ys k 0) (x + t + 1) ≡ ltb k (upTo t ys x)
+  unfolding upTo
+  window-to k h =
+      up-to-limit (getD ys k 0)
+      ∙ first-places (λ y. leb y (x + t)) ys (λ i j l m e. le-leb (getD ys i 0) (x + t) (omega (arith, leb-true (getD ys j 0) (x + t) e, o .in-order i j l m))) k h
+
+  window-opens : below t ys x ≤ upTo t ys x
+  unfolding below upTo
+  window-opens = count-mono _ _ ys (λ y e. le-leb y (x + t) (omega (arith, ltb-true (y + t) x e)))
+
+  -- on one edge the window stands between its two cursors, on two there is none
+  opens : (same : Bool) → markedIf same (below t ys x) - 1 ≤ markedIf same (upTo t ys x) - 1
+  unfolding markedIf
+  opens true = omega (arith, window-opens)
+  opens false = omega arith
+
+  around : (same : Bool) (k : ℕ) → k < length ys → (same && leb (difference x (getD ys k 0)) t) ≡ (leb (markedIf same (below t ys x) - 1) k && ltb k (markedIf same (upTo t ys x) - 1))
+  unfolding markedIf
+  around false k h = no-place 0 k
+  around true k h =
+      let one-less : (n : ℕ) → suc n - 1 ≡ n = λ n. omega arith in
+      rw (one-less (below t ys x), one-less (upTo t ys x))
+      (in-window x (getD ys k 0) t ∙ ap₂ _&&_ (window-from k h) (window-to k h))
+
+  pub reached-joined : (same : Bool) → countIf (λ y. some-route t d p x q y || (same && leb (difference x y) t)) ys ≡ joined (length ys) (at at-first at-first) (at at-first at-second) (at at-second at-first) (at at-second at-second) (markedIf same (below t ys x) - 1) (markedIf same (upTo t ys x) - 1)
+  unfolding joined
+  reached-joined same =
+      count-cong _ _ ys (λ y. sym (by-arrival (by at-first at-first y) (by at-first at-second y) (by at-second at-first y) (by at-second at-second y) (same && leb (difference x y) t)))
+      ∙ cover-list ys (arrives at-first) (arrives at-second) (λ y. same && leb (difference x y) t) (max (at at-first at-first) (at at-second at-first)) (max (at at-first at-second) (at at-second at-second)) (markedIf same (below t ys x) - 1) (markedIf same (upTo t ys x) - 1) (opens same) first-arrives last-arrives (around same)
