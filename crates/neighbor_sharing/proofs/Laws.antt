@@ -14,3 +14,4 @@ pub mod Answering
 pub mod Claim
 pub mod Joined
 pub mod Reading
+pub mod Apart

@@ -6,3 +6,4 @@ pub mod Six
 pub mod Asked
 pub mod OneWay
 pub mod Joined
+pub mod Runs

@@ -2,6 +2,7 @@
 mod asked;
 mod cursor;
 mod joining;
+mod pairs;
 mod sweep;
 mod two_edges;
 

@@ -1,0 +1,82 @@
+-- Two edges: their entries in the table, and that nothing is reached where no route without gaps is within the threshold.
+use mathlib.Core.Bool.{Bool, true, false, _&&_, _||_, true≢false}
+use mathlib.Core.List.{List}
+use mathlib.Core.Path.{_≡_, _∙_, refl, sym, ap}
+use Prim.Native.Nat.{ℕ, zero, suc, pred, _+_, _-_, _*_, _≤_, _<_}
+use native.Mathlib.Nat.{mul-le-mul}
+use native.Mathlib.Numerals.{sub-one}
+use native.Mathlib.Omega.{arith}
+use lib.Dec.{leb}
+use Rattle.model.specs.Distance.{Distance, metres, none, plus, within}
+use Rattle.model.specs.Location.{Side, at-first, at-second, gap, reaches}
+use Rattle.model.specs.Network.{Network, IsNode}
+use Rattle.neighbor_sharing.proofs.Laws.Positions.{reaches-less}
+use Rattle.neighbor_sharing.proofs.Laws.Reading.{in-rows}
+use Rattle.neighbor_sharing.specs.Joined.{reachedBy, isReached}
+use Rattle.neighbor_sharing.specs.Runs.{TableEntry, Held}
+use Rattle.neighbor_sharing.specs.Six.{decoded, codeBetween, distanceBetween}
+use Rattle.neighbor_sharing.specs.declared.sweep.Edges.{Edges}
+
+-- the entry of two nodes lies within a square table, which is no larger than the greatest one
+pub in-square : {nodes : ℕ} {table : List ℕ} {u v : ℕ} → TableEntry nodes table u v → (u - 1) * nodes + (v - 1) < nodes * nodes
+in-square {nodes} {u = u} {v = v} e =
+    in-rows nodes nodes (u - 1) (v - 1) (omega (arith, e .u-from, e .u-to)) (omega (arith, e .v-from, e .v-to))
+
+pub square-small : {nodes : ℕ} {table : List ℕ} {u v : ℕ} → TableEntry nodes table u v → nodes * nodes ≤ 262144
+square-small e = omega (arith, mul-le-mul (e .nodes-to) (e .nodes-to))
+
+pub place-as : (u v n : ℕ) → (u - 1) * n + (v - 1) ≡ pred u * n + pred v
+place-as u v n = simp sub-one
+
+-- the ends of the network's edges are such nodes
+pub held-entry : {net : Network} {table : List ℕ} {u v : ℕ} → Held net table → IsNode net u → IsNode net v → TableEntry (net .nodes) table u v
+held-entry h p q =
+    record {
+      u-from = p .from-one;
+      u-to = p .to-nodes;
+      v-from = q .from-one;
+      v-to = q .to-nodes;
+      nodes-to = h .nodes-to;
+      room = h .room;
+    }
+
+-- two edges with equal entries
+pub same-edges : {p q : ℕ} {same : Bool} {ff fs sf ss ff′ fs′ sf′ ss′ : ℕ} → ff ≡ ff′ → fs ≡ fs′ → sf ≡ sf′ → ss ≡ ss′ → _≡_ {A = Edges} (record { long1 = p; long2 = q; same = same; ff = ff; fs = fs; sf = sf; ss = ss }) (record { long1 = p; long2 = q; same = same; ff = ff′; fs = fs′; sf = sf′; ss = ss′ })
+same-edges {p} {q} {same} a b c d = λ k. record { long1 = p; long2 = q; same = same; ff = a k; fs = b k; sf = c k; ss = d k }
+
+-- a route without gaps, read off its code
+pub no-route : (t code : ℕ) → code ≡ 0 → false ≡ reaches t 0 (decoded code) 0
+unfolding decoded reaches plus within
+no-route t code e = rw e refl
+
+pub bare-route : (t code : ℕ) → 1 ≤ code → leb (code - 1) t ≡ reaches t 0 (decoded code) 0
+unfolding decoded reaches plus within
+bare-route t zero h = absurd (omega arith)
+bare-route t (suc n) h = ap (λ (m : ℕ). leb m t) {x = suc n - 1} {y = 0 + n + 0} (omega arith)
+
+-- with gaps it reaches no farther
+farther : (t a : ℕ) (d : Distance) (b : ℕ) → reaches t 0 d 0 ≡ false → reaches t a d b ≡ false
+farther t a d b off = go (reaches t a d b) refl
+  where
+    go : (r : Bool) → reaches t a d b ≡ r → reaches t a d b ≡ false
+    go true e = absurd (true≢false (sym (reaches-less t 0 a d 0 b (omega arith) (omega arith) e) ∙ off))
+    go false e = e
+
+all-off : {a b c d two : Bool} (near : Bool) → a ≡ false → b ≡ false → c ≡ false → d ≡ false → two ≡ false → (((a || b) || (c || d)) || (two && near)) ≡ false
+all-off near p q r s two = rw (p, q, r, s, two)
+
+pub nothing-reached : (t : ℕ) (w : Edges) → w .same ≡ false → ((s s′ : Side) → reaches t 0 (distanceBetween w s s′) 0 ≡ false) → (x y : ℕ) → isReached t w x y ≡ false
+unfolding isReached reachedBy
+nothing-reached t w two off x y =
+    all-off _ (by at-first at-first) (by at-first at-second) (by at-second at-first) (by at-second at-second) two
+  where
+    by : (s s′ : Side) → reaches t (gap (w .long1) s x) (distanceBetween w s s′) (gap (w .long2) s′ y) ≡ false
+    by s s′ = farther t (gap (w .long1) s x) (distanceBetween w s s′) (gap (w .long2) s′ y) (off s s′)
+
+-- the four routes one by one
+pub four-routes : (t : ℕ) (w : Edges) → reaches t 0 (decoded (w .ff)) 0 ≡ false → reaches t 0 (decoded (w .fs)) 0 ≡ false → reaches t 0 (decoded (w .sf)) 0 ≡ false → reaches t 0 (decoded (w .ss)) 0 ≡ false → (s s′ : Side) → reaches t 0 (distanceBetween w s s′) 0 ≡ false
+unfolding distanceBetween codeBetween
+four-routes t w ff fs sf ss at-first at-first = ff
+four-routes t w ff fs sf ss at-first at-second = fs
+four-routes t w ff fs sf ss at-second at-first = sf
+four-routes t w ff fs sf ss at-second at-second = ss
