@@ -15,3 +15,4 @@ pub mod Claim
 pub mod Joined
 pub mod Reading
 pub mod Apart
+pub mod Meeting

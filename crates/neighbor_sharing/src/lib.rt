@@ -3,6 +3,7 @@ mod asked;
 mod cursor;
 mod joining;
 mod pairs;
+mod runs;
 mod sweep;
 mod two_edges;
 
