@@ -16,3 +16,4 @@ pub mod Joined
 pub mod Reading
 pub mod Apart
 pub mod Meeting
+pub mod Totals

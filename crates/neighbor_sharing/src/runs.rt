@@ -56,3 +56,105 @@ fn meet_runs(
         moves,
     )
 }
+
+// Run a beside the earlier ones of its set, of which r is the first.
+fn earlier_total(
+    nodes: u32,
+    firsts: &[u32],
+    seconds: &[u32],
+    lengths: &[u32],
+    table: &[u32],
+    edges: &[u32],
+    offsets: &[u32],
+    bounds: &[u32],
+    positions: &mut [u32],
+    moves: &mut [u32],
+    threshold: u32,
+    r: usize,
+    a: usize,
+) -> u64
+    requires { ⌜ RunsReady (network nodes (now firsts) (now seconds) (now lengths)) (now table) (now edges) (now offsets) (now bounds) r (suc a) threshold × (r ≤ a) × SweepRoom (now positions) (now moves) ⌝ }
+    ensures { λ x. ⌜ (x ≡ earlierPairs (network nodes (now (firsts .entry)) (now (seconds .entry)) (now (lengths .entry))) (now (edges .entry)) (now (offsets .entry)) (now (bounds .entry)) threshold r a (a - r)) × (x ≤ 549755813888) ⌝ }
+{
+    let mut total = 0;
+    let mut b = r;
+    while b < a {
+        total += meet_runs(
+            nodes,
+            firsts,
+            seconds,
+            lengths,
+            table,
+            edges,
+            offsets,
+            bounds,
+            positions,
+            moves,
+            threshold,
+            a,
+            b,
+        );
+        b += 1;
+    }
+    total
+}
+
+// The count of a set whose runs are those from r up to before q: every run beside itself, beside each earlier one and back, and
+// each event beside itself taken off.
+pub(crate) fn set_total(
+    nodes: u32,
+    firsts: &[u32],
+    seconds: &[u32],
+    lengths: &[u32],
+    table: &[u32],
+    edges: &[u32],
+    offsets: &[u32],
+    bounds: &[u32],
+    positions: &mut [u32],
+    moves: &mut [u32],
+    threshold: u32,
+    r: usize,
+    q: usize,
+) -> u32
+    requires { ⌜ RunsReady (network nodes (now firsts) (now seconds) (now lengths)) (now table) (now edges) (now offsets) (now bounds) r q threshold × SumFits (network nodes (now firsts) (now seconds) (now lengths)) (now edges) (now offsets) (now bounds) r q threshold × SweepRoom (now positions) (now moves) ⌝ }
+    ensures { λ x. ⌜ x ≡ otherPairs (network nodes (now (firsts .entry)) (now (seconds .entry)) (now (lengths .entry))) (now (edges .entry)) (now (offsets .entry)) (now (bounds .entry)) threshold r q ⌝ }
+{
+    let mut total = 0;
+    let mut a = r;
+    while a < q {
+        let own = meet_runs(
+            nodes,
+            firsts,
+            seconds,
+            lengths,
+            table,
+            edges,
+            offsets,
+            bounds,
+            positions,
+            moves,
+            threshold,
+            a,
+            a,
+        );
+        let earlier = earlier_total(
+            nodes,
+            firsts,
+            seconds,
+            lengths,
+            table,
+            edges,
+            offsets,
+            bounds,
+            positions,
+            moves,
+            threshold,
+            r,
+            a,
+        );
+        total += own + 2 * earlier;
+        a += 1;
+    }
+    let events = place(bounds, q) - place(bounds, r);
+    (total - events as u64) as u32
+}
