@@ -17,3 +17,4 @@ pub mod Reading
 pub mod Apart
 pub mod Meeting
 pub mod Totals
+pub mod Row

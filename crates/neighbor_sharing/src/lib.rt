@@ -4,6 +4,7 @@ mod cursor;
 mod joining;
 mod pairs;
 mod runs;
+mod sets;
 mod sweep;
 mod two_edges;
 

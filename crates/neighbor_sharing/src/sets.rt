@@ -1,0 +1,58 @@
+// The counts of all sets at all thresholds.
+use crate::runs::place;
+use crate::runs::set_total;
+ghost use mathlib.Core.Path.{_≡_};
+ghost use lib.ListN.{length};
+ghost use Rattle.model.specs.Network.{network};
+ghost use Rattle.prepare.specs.Counts.{CountsAnswered};
+ghost use Rattle.prepare.specs.RunPairs.{otherRow, RowReady};
+ghost use Rattle.neighbor_sharing.specs.Runs.{SweepRoom};
+use model::Check;
+use model::EventSet;
+
+// Six cursors, each with a position at every event of the first edge.
+const MOVES: usize = 6;
+
+const POSITIONS: usize = MOVES * EventSet::MAX_EVENTS;
+
+// The row of a set whose runs are those from r up to before q: its count at each threshold.
+fn set_row(
+    nodes: u32,
+    firsts: &[u32],
+    seconds: &[u32],
+    lengths: &[u32],
+    table: &[u32],
+    edges: &[u32],
+    offsets: &[u32],
+    bounds: &[u32],
+    positions: &mut [u32],
+    moves: &mut [u32],
+    thresholds: &[u32],
+    r: usize,
+    q: usize,
+    row: &mut [u32],
+)
+    requires { ⌜ RowReady (network nodes (now firsts) (now seconds) (now lengths)) (now table) (now edges) (now offsets) (now bounds) (now thresholds) r q × (length (now row) ≡ length (now thresholds)) × SweepRoom (now positions) (now moves) ⌝ }
+    ensures { λ _. ⌜ now (row .exit) ≡ otherRow (network nodes (now (firsts .entry)) (now (seconds .entry)) (now (lengths .entry))) (now (edges .entry)) (now (offsets .entry)) (now (bounds .entry)) (now (thresholds .entry)) r q ⌝ }
+{
+    let mut k = 0;
+    while k < thresholds.len() {
+        let threshold = thresholds[k];
+        row[k] = set_total(
+            nodes,
+            firsts,
+            seconds,
+            lengths,
+            table,
+            edges,
+            offsets,
+            bounds,
+            positions,
+            moves,
+            threshold,
+            r,
+            q,
+        );
+        k += 1;
+    }
+}
