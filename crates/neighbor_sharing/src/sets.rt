@@ -56,3 +56,73 @@ fn set_row(
         k += 1;
     }
 }
+
+// The same for all sets, with working storage lent.
+fn count_sets(
+    nodes: u32,
+    firsts: &[u32],
+    seconds: &[u32],
+    lengths: &[u32],
+    sets: &[u32],
+    edges: &[u32],
+    offsets: &[u32],
+    thresholds: &[u32],
+    laid_edges: &mut [u32; EventSet::MAX_EVENTS],
+    laid_offsets: &mut [u32; EventSet::MAX_EVENTS],
+    bounds: &mut [u32; prepare::BOUNDS],
+    set_runs: &mut [u32; prepare::SET_RUNS],
+    table: &mut [u32; prepare::TABLE],
+    positions: &mut [u32; POSITIONS],
+    moves: &mut [u32; MOVES],
+    answers: &mut [u32],
+) -> Check
+    ensures { λ r. ⌜ CountsAnswered (network nodes (now (firsts .entry)) (now (seconds .entry)) (now (lengths .entry))) (now (sets .entry)) (now (edges .entry)) (now (offsets .entry)) (now (thresholds .entry)) (now (answers .entry)) r (now (answers .exit)) ⌝ }
+{
+    let verdict = prepare::prepare(
+        nodes,
+        firsts,
+        seconds,
+        lengths,
+        sets,
+        edges,
+        offsets,
+        thresholds,
+        answers.len(),
+        laid_edges,
+        laid_offsets,
+        bounds,
+        set_runs,
+        table,
+    );
+    if let Check::Refused(_, _) = verdict {
+        return verdict;
+    }
+    let count = validate::greatest_set(sets) as usize + 1;
+    let width = thresholds.len();
+    let mut start = 0;
+    let mut s = 0;
+    while s < count {
+        let end = start + width;
+        let r = place(set_runs, s);
+        let q = place(set_runs, s + 1);
+        set_row(
+            nodes,
+            firsts,
+            seconds,
+            lengths,
+            table,
+            laid_edges,
+            laid_offsets,
+            bounds,
+            positions,
+            moves,
+            thresholds,
+            r,
+            q,
+            &mut answers[start..end],
+        );
+        start = end;
+        s += 1;
+    }
+    verdict
+}

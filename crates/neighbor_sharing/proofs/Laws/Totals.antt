@@ -108,3 +108,7 @@ module _ {net : Network} {table es xs bounds : List ℕ} {t r q : ℕ} (w : Runs
     pub taken-off : (from ≤ to) × (to - from ≤ total) × (total - (to - from) < 4294967296)
     taken-off =
         (rw (is-to, is-from) (fits .begins), rw (all, is-to, is-from) (fits .themselves), rw others-are (fits .small))
+
+-- arrays of these lengths are room enough
+pub lent-arrays : {positions moves : List ℕ} → length positions ≡ 49152 → length moves ≡ 6 → SweepRoom positions moves
+lent-arrays p m = record { positions-room = omega arith; moves-room = omega arith }
