@@ -9,3 +9,5 @@ mod sweep;
 mod two_edges;
 
 pub use two_edges::cursors;
+
+pub use sets::counts;

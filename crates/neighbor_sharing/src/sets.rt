@@ -126,3 +126,44 @@ fn count_sets(
     }
     verdict
 }
+
+// For each two edges the cursors of a sweep. The answers stand set by set, and under each set threshold by threshold.
+pub fn counts(
+    nodes: u32,
+    firsts: &[u32],
+    seconds: &[u32],
+    lengths: &[u32],
+    sets: &[u32],
+    edges: &[u32],
+    offsets: &[u32],
+    thresholds: &[u32],
+    answers: &mut [u32],
+) -> Check
+    ensures { λ r. ⌜ CountsAnswered (network nodes (now (firsts .entry)) (now (seconds .entry)) (now (lengths .entry))) (now (sets .entry)) (now (edges .entry)) (now (offsets .entry)) (now (thresholds .entry)) (now (answers .entry)) r (now (answers .exit)) ⌝ }
+{
+    let mut laid_edges = [0u32; EventSet::MAX_EVENTS];
+    let mut laid_offsets = [0u32; EventSet::MAX_EVENTS];
+    let mut bounds = [0u32; prepare::BOUNDS];
+    let mut set_runs = [0u32; prepare::SET_RUNS];
+    let mut table = [0u32; prepare::TABLE];
+    let mut positions = [0u32; POSITIONS];
+    let mut moves = [0u32; MOVES];
+    count_sets(
+        nodes,
+        firsts,
+        seconds,
+        lengths,
+        sets,
+        edges,
+        offsets,
+        thresholds,
+        &mut laid_edges,
+        &mut laid_offsets,
+        &mut bounds,
+        &mut set_runs,
+        &mut table,
+        &mut positions,
+        &mut moves,
+        answers,
+    )
+}
