@@ -1,7 +1,7 @@
 // What is reached from the events of the first edge, from the six cursors' positions.
 use crate::cursor::less;
 ghost use mathlib.Core.Path.{_≡_};
-ghost use Prim.Native.Nat.{_≤_, _<_, min, max};
+ghost use Prim.Native.Nat.{_-_, _≤_, _<_, min, max};
 ghost use Rattle.neighbor_sharing.specs.Joined.{joined, positionAt, Countable, joinedAt, joinedSum};
 
 fn lesser(a: u64, b: u64) -> u64
@@ -16,6 +16,13 @@ fn greater(a: u64, b: u64) -> u64
     if a < b { b } else { a }
 }
 
+// The places from one on up to before another, which nothing reaches: none where what is reached from the two ends overlaps.
+fn unreached(from: u64, to: u64) -> u64
+    ensures { λ r. ⌜ r ≡ to - from ⌝ }
+{
+    if to < from { 0 } else { to - from }
+}
+
 // Of so many places the first, by two routes; the last, by two routes; and a window: overlaps are counted once.
 fn joined(places: u64, ff: u64, fs: u64, sf: u64, ss: u64, low: u64, high: u64) -> u64
     ensures { λ r. ⌜ r ≡ joined places ff fs sf ss low high ⌝ }
@@ -23,8 +30,8 @@ fn joined(places: u64, ff: u64, fs: u64, sf: u64, ss: u64, low: u64, high: u64) 
     let first = greater(ff, sf);
     let last = greater(fs, ss);
     let rest = less(places, last);
-    let before_window = less(lesser(low, rest), first);
-    let behind_window = less(rest, greater(high, first));
+    let before_window = unreached(first, lesser(low, rest));
+    let behind_window = unreached(greater(high, first), rest);
     less(less(places, before_window), behind_window)
 }
 

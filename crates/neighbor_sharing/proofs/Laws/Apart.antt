@@ -7,7 +7,7 @@ use native.Mathlib.Nat.{mul-le-mul}
 use native.Mathlib.Numerals.{sub-one}
 use native.Mathlib.Omega.{arith}
 use lib.Dec.{leb}
-use Rattle.model.specs.Distance.{Distance, metres, none, plus, within}
+use Rattle.model.specs.Distance.{Distance, plus, within}
 use Rattle.model.specs.Location.{Side, at-first, at-second, gap, reaches}
 use Rattle.model.specs.Network.{Network, IsNode}
 use Rattle.neighbor_sharing.proofs.Laws.Positions.{reaches-less}

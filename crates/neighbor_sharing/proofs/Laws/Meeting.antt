@@ -1,18 +1,16 @@
 -- Two runs of one set: what is reached by the table's entries is what lies within the threshold.
-use mathlib.Core.Bool.{Bool, false, _&&_, _||_}
+use mathlib.Core.Bool.{false, _&&_, _||_}
 use mathlib.Core.List.{List}
 use mathlib.Core.Path.{_≡_, _∙_, refl, sym, ap}
-use Prim.Native.Nat.{ℕ, suc, pred, _+_, _-_, _*_, _≤_, _<_}
-use native.Mathlib.Nat.{le-trans}
+use Prim.Native.Nat.{ℕ, suc, pred, _+_, _-_, _≤_, _<_}
 use native.Mathlib.Numerals.{add-one, sub-one}
 use native.Mathlib.Omega.{arith}
 use lib.Dec.{eqb, leb}
 use lib.ListN.{length, getD, take, drop}
-use Rattle.model.specs.Counting.{countIf}
 use Rattle.model.specs.Distance.{Distance, metres, none, code, difference, within}
 use Rattle.model.specs.Events.{event}
 use Rattle.model.specs.Limits.{maxEvents}
-use Rattle.model.specs.Location.{Side, at-first, at-second, endNode, gap}
+use Rattle.model.specs.Location.{Side, at-first, at-second, endNode}
 use Rattle.model.specs.Network.{Network, edges, size}
 use Rattle.model.specs.NodeDistance.{boundedDistance}
 use Rattle.model.specs.PairCount.{eventDistance}
@@ -22,7 +20,7 @@ use Rattle.model.proofs.Laws.Cover.{none-pass}
 use Rattle.model.proofs.Laws.Routes.{some-route, event-within}
 use Rattle.prepare.specs.Prepared.{entry}
 use Rattle.prepare.specs.RunPairs.{edgeOf, partOf, runPairs, RunsReady}
-use Rattle.prepare.proofs.Laws.RunPairs.{run-is, run-codes, pairs-few}
+use Rattle.prepare.proofs.Laws.RunPairs.{run-is, run-codes}
 use Rattle.neighbor_sharing.specs.Joined.{reachedBy, isReached, reachedPairs}
 use Rattle.neighbor_sharing.specs.Runs.{edgesBetween, Held, SweepRoom}
 use Rattle.neighbor_sharing.specs.Six.{decoded, codeBetween, distanceBetween, Laid, EdgesSweepable}
@@ -90,7 +88,7 @@ module _ {net : Network} {table es xs bounds : List ℕ} {r q t : ℕ} (w : Runs
     pairs-are = sum-below-cong (length xs-a) _ _ (λ k h. count-places _ _ xs-b (λ l m. reached-within k l h m))
 
     pub none-are : ((x y : ℕ) → isReached t (edgesBetween net table i j) x y ≡ false) → 0 ≡ runPairs net es xs bounds t a b
-    none-are off = sym (none ∙ refl) ∙ pairs-are
+    none-are off = sym none ∙ pairs-are
       where
         none : reachedPairs t (edgesBetween net table i j) xs-a xs-b ≡ 0
         none = unfold reachedPairs in sum-below-zero (length xs-a) _ (λ k h. none-pass _ xs-b (λ l m. off _ _))

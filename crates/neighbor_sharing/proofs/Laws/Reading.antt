@@ -1,20 +1,16 @@
 -- The positions that a sweep leaves, read one by one, give what is reached from each event of the first edge.
-use mathlib.Core.Bool.{Bool, _&&_, _||_}
 use mathlib.Core.List.{List, [], _∷_, _++_, map, append-assoc}
-use mathlib.Core.Path.{_≡_, _∙_, refl, sym, ap}
+use mathlib.Core.Path.{_≡_, _∙_, sym, ap}
 use Prim.Native.Nat.{ℕ, zero, suc, _+_, _-_, _*_, _≤_, _<_}
 use native.Mathlib.Nat.{suc-mul, mul-le-mul-right, not-suc-le-zero}
 use native.Mathlib.Numerals.{add-one}
 use native.Mathlib.Omega.{arith}
-use lib.Dec.{leb}
 use lib.ListN.{length, getD, drop, length-map, List·getD-append}
 use lib.Seq.{getD-append-add}
 use Rattle.model.specs.Answer.{written}
 use Rattle.model.specs.Counting.{sumBelow, countIf}
-use Rattle.model.specs.Distance.{difference}
 use Rattle.model.specs.Location.{Side, at-first, at-second}
 use Rattle.model.proofs.Laws.Counting.{sum-below-cong}
-use Rattle.model.proofs.Laws.Routes.{some-route}
 use Rattle.neighbor_sharing.proofs.Laws.Joined.{marked-position, reached-joined}
 use Rattle.neighbor_sharing.proofs.Laws.Six.{marks-length, window-length}
 use Rattle.neighbor_sharing.proofs.Laws.Step.{at-map}

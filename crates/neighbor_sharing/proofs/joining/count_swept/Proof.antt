@@ -1,6 +1,6 @@
 -- The sum over the events passed.
 use mathlib.Core.Path.{_≡_, refl, ap, _∙_}
-use Prim.Native.Nat.{_+_, _-_, _*_, _≤_}
+use Prim.Native.Nat.{_-_, _*_, _≤_}
 use native.Mathlib.Omega.{arith}
 use Rattle.model.specs.Counting.{sumBelow}
 use Rattle.neighbor_sharing.specs.Joined.{joinedAt, joinedSum}

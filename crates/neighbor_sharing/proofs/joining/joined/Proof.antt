@@ -16,20 +16,20 @@ less-requires c κs = search needs
 lesser-requires : tie.Need-lesser-requires
 lesser-requires c κs = search needs
 
-less-requires-2 : tie.Need-less-requires-2
-less-requires-2 c κs = search needs
+unreached-requires : tie.Need-unreached-requires
+unreached-requires c κs = search needs
 
 greater-requires-3 : tie.Need-greater-requires-3
 greater-requires-3 c κs = search needs
 
+unreached-requires-2 : tie.Need-unreached-requires-2
+unreached-requires-2 c κs = search needs
+
+less-requires-2 : tie.Need-less-requires-2
+less-requires-2 c κs = search needs
+
 less-requires-3 : tie.Need-less-requires-3
 less-requires-3 c κs = search needs
-
-less-requires-4 : tie.Need-less-requires-4
-less-requires-4 c κs = search needs
-
-less-requires-5 : tie.Need-less-requires-5
-less-requires-5 c κs = search needs
 
 returns : tie.Need-returns
 unfolding joined
@@ -43,9 +43,9 @@ joined-spec =
     greater-requires-2
     less-requires
     lesser-requires
-    less-requires-2
+    unreached-requires
     greater-requires-3
+    unreached-requires-2
+    less-requires-2
     less-requires-3
-    less-requires-4
-    less-requires-5
     returns)

@@ -1,6 +1,4 @@
 -- The six positions are those of the event.
-use Prim.Native.Nat.{_-_, min, max}
-use native.Mathlib.Omega.{arith}
 use Rattle.neighbor_sharing.specs.Joined.{joinedAt}
 use Rattle.neighbor_sharing.proofs.Laws.Reading.{joined-few}
 use mathlib.Core.Path.{_≡_}

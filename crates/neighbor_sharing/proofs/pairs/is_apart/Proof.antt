@@ -1,6 +1,6 @@
 -- No route is within the threshold without gaps, and so none is with them.
 use mathlib.Core.Bool.{false≢true}
-use mathlib.Core.Path.{_≡_, sym, _∙_}
+use mathlib.Core.Path.{sym, _∙_}
 use borrow.Author.Tests.{not-true}
 use Rattle.neighbor_sharing.proofs.Laws.Apart.{nothing-reached, four-routes}
 use borrow.Author.Needs.{needs}

@@ -1,6 +1,5 @@
 -- No metres, or one less than the code.
 use native.Mathlib.Omega.{arith}
-use borrow.Author.Tests.{eqb-true}
 use Rattle.neighbor_sharing.proofs.Laws.Apart.{no-route, bare-route}
 use borrow.Author.Needs.{needs}
 use Rattle.neighbor_sharing.proofs.pairs.is_within.Statement.{statement}

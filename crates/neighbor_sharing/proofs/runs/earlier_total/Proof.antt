@@ -3,7 +3,6 @@ use Prim.Native.Nat.{_-_}
 use native.Mathlib.Omega.{arith}
 use Rattle.model.specs.Network.{network}
 use Rattle.neighbor_sharing.proofs.Laws.Totals.{Lent, lent-first, lent-on, lent-room, EarlierTo, earlier-begin, earlier-ready, earlier-more, earlier-few, earlier-done}
-use borrow.Author.Needs.{needs}
 use Rattle.neighbor_sharing.proofs.runs.earlier_total.Statement.{statement}
 use Rattle.neighbor_sharing.proofs.runs.earlier_total.Tie as tie
 

@@ -1,11 +1,9 @@
 -- The sum over the runs passed; at the end each event beside itself is taken off.
-use mathlib.Core.Path.{_≡_, _∙_}
+use mathlib.Core.Path.{_∙_}
 use Prim.Native.Nat.{_-_, _≤_, _<_}
 use native.Mathlib.Omega.{arith}
 use Rattle.model.specs.Network.{network}
-use Rattle.prepare.specs.RunPairs.{allPairs}
 use Rattle.neighbor_sharing.proofs.Laws.Totals.{Lent, lent-first, lent-on, lent-room, AllTo, all-begin, own-ready, up-to-ready, all-more, all-few, all-done, others-are, taken-off}
-use borrow.Author.Needs.{needs}
 use Rattle.neighbor_sharing.proofs.runs.set_total.Statement.{statement}
 use Rattle.neighbor_sharing.proofs.runs.set_total.Tie as tie
 
