@@ -2,7 +2,8 @@
 use crate::runs::place;
 use crate::runs::set_total;
 ghost use mathlib.Core.Path.{_≡_};
-ghost use lib.ListN.{length};
+ghost use Prim.Native.Nat.{_<_};
+ghost use lib.ListN.{length, getD};
 ghost use Rattle.model.specs.Network.{network};
 ghost use Rattle.prepare.specs.Counts.{CountsAnswered};
 ghost use Rattle.prepare.specs.RunPairs.{otherRow, RowReady};
@@ -14,6 +15,13 @@ use model::EventSet;
 const MOVES: usize = 6;
 
 const POSITIONS: usize = MOVES * EventSet::MAX_EVENTS;
+
+fn threshold_at(thresholds: &[u32], k: usize) -> u32
+    requires { ⌜ k < length (now thresholds) ⌝ }
+    ensures { λ r. ⌜ r ≡ getD (now (thresholds .entry)) k 0 ⌝ }
+{
+    thresholds[k]
+}
 
 // The row of a set whose runs are those from r up to before q: its count at each threshold.
 fn set_row(
@@ -37,7 +45,7 @@ fn set_row(
 {
     let mut k = 0;
     while k < thresholds.len() {
-        let threshold = thresholds[k];
+        let threshold = threshold_at(thresholds, k);
         row[k] = set_total(
             nodes,
             firsts,

@@ -5,7 +5,7 @@ use native.Mathlib.Omega.{arith}
 use lib.ListN.{length}
 use Rattle.model.specs.Network.{network}
 use Rattle.prepare.specs.RunPairs.{otherPairs, otherRow}
-use Rattle.neighbor_sharing.proofs.Laws.Row.{RowTo, row-begin, row-more, row-done}
+use Rattle.neighbor_sharing.proofs.Laws.Row.{RowTo, row-begin, row-more, row-done, ready-at-one}
 use Rattle.neighbor_sharing.proofs.Laws.Totals.{Lent, lent-first, lent-on, lent-room}
 use borrow.Author.Needs.{needs}
 use Rattle.neighbor_sharing.proofs.sets.set_row.Statement.{statement}
@@ -21,14 +21,11 @@ abbrev μ-loop : tie.MeasureT-loop
 loop-holds : tie.Need-loop-holds Inv-loop μ-loop
 loop-holds c = (row-begin _ (c .before .before .before .before .before .before .before .before .before .before .before .pre .1), lent-first)
 
-mul-threshold : tie.Need-mul-threshold Inv-loop μ-loop
-mul-threshold c = search needs
-
-shared-slice-read-threshold : tie.Need-shared-slice-read-threshold Inv-loop μ-loop
-shared-slice-read-threshold c = search needs
+threshold-at-requires : tie.Need-threshold-at-requires Inv-loop μ-loop
+threshold-at-requires c κs = omega arith
 
 set-total-requires : tie.Need-set-total-requires Inv-loop μ-loop
-set-total-requires c κs = let p = c .before .before .before .before .before .before .before .before .before .before .before .before .before .before .before .before .pre in let h = c .before .before .before .loop-test .taken in (p .0 .ready-at _ h, p .0 .fits-at _ h, lent-room (c .before .before .before .before .loop .inv .1) (p .2))
+set-total-requires c κs = let p = c .before .before .before .before .before .before .before .before .before .before .before .before .before .before .before .before .pre in let h = c .before .before .before .loop-test .taken in let one = ready-at-one (p .0) h (c .before .before .threshold-at .ensures) in (one .0, one .1, lent-room (c .before .before .before .before .loop .inv .1) (p .2))
 
 mul-row : tie.Need-mul-row Inv-loop μ-loop
 mul-row c = omega (arith, c .before .before .before .before .before .before .before .before .loop-test .taken, c .before .before .before .before .before .before .before .before .before .before .before .before .before .before .before .before .before .before .before .before .before .good)
@@ -43,7 +40,7 @@ loop-less : tie.Need-loop-less Inv-loop μ-loop
 loop-less c = search needs
 
 loop-again : tie.Need-loop-again Inv-loop μ-loop
-loop-again c = let i = c .before .before .before .before .before .before .before .before .before .loop .inv in (row-more (i .0) (c .before .before .before .before .before .before .before .before .loop-test .taken) (c .before .before .before .before .set-total .ensures), lent-on (i .1) (c .before .before .before .before .set-total .kept .1 .1 .1 .1 .1 .1 .1 .1 .0) (c .before .before .before .before .set-total .kept .1 .1 .1 .1 .1 .1 .1 .1 .1 .0))
+loop-again c = let i = c .before .before .before .before .before .before .before .before .before .loop .inv in (row-more (i .0) (c .before .before .before .before .before .before .before .before .loop-test .taken) (c .before .before .before .before .before .before .before .threshold-at .ensures) (c .before .before .before .before .set-total .ensures), lent-on (i .1) (c .before .before .before .before .set-total .kept .1 .1 .1 .1 .1 .1 .1 .1 .0) (c .before .before .before .before .set-total .kept .1 .1 .1 .1 .1 .1 .1 .1 .1 .0))
 
 same-length : tie.Need-same-length Inv-loop μ-loop
 same-length c = c .before .loop .inv .1 .positions-length
@@ -65,8 +62,7 @@ set-row-spec =
     Inv-loop
     μ-loop
     loop-holds
-    mul-threshold
-    shared-slice-read-threshold
+    threshold-at-requires
     set-total-requires
     mul-row
     slice-write-row
