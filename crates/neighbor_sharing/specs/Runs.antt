@@ -10,8 +10,8 @@ use Rattle.prepare.specs.Prepared.{entry}
 use Rattle.neighbor_sharing.specs.declared.sweep.Edges.{Edges}
 
 -- two edges, by their indices, with the table entries between their ends
-unfoldable pub edgesBetween : Network → List ℕ → ℕ → ℕ → Edges
-edgesBetween net table i j =
+unfoldable pub tableEdges : Network → List ℕ → ℕ → ℕ → Edges
+tableEdges net table i j =
     record {
       long1 = size net i;
       long2 = size net j;

@@ -8,6 +8,5 @@ mod sets;
 mod sweep;
 mod two_edges;
 
-pub use two_edges::cursors;
-
 pub use sets::counts;
+pub use two_edges::cursors;

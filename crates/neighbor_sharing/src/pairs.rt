@@ -9,7 +9,7 @@ ghost use lib.ListN.{length, getD};
 ghost use Rattle.model.specs.Location.{reaches};
 ghost use Rattle.model.specs.Network.{network};
 ghost use Rattle.neighbor_sharing.specs.Joined.{isReached, reachedPairs};
-ghost use Rattle.neighbor_sharing.specs.Runs.{edgesBetween, TableEntry, Held};
+ghost use Rattle.neighbor_sharing.specs.Runs.{tableEdges, TableEntry, Held};
 ghost use Rattle.neighbor_sharing.specs.Six.{decoded, EdgesSweepable};
 
 // The table entry of two nodes.
@@ -21,7 +21,7 @@ fn entry(nodes: u32, table: &[u32], u: u32, v: u32) -> u32
 }
 
 // Two edges by their indices.
-pub(crate) fn edges_between(
+pub(crate) fn table_edges(
     nodes: u32,
     firsts: &[u32],
     seconds: &[u32],
@@ -31,7 +31,7 @@ pub(crate) fn edges_between(
     j: usize,
 ) -> Edges
     requires { ⌜ Held (network nodes (now firsts) (now seconds) (now lengths)) (now table) × (i < length (now lengths)) × (j < length (now lengths)) ⌝ }
-    ensures { λ r. ⌜ r ≡ edgesBetween (network nodes (now (firsts .entry)) (now (seconds .entry)) (now (lengths .entry))) (now (table .entry)) i j ⌝ }
+    ensures { λ r. ⌜ r ≡ tableEdges (network nodes (now (firsts .entry)) (now (seconds .entry)) (now (lengths .entry))) (now (table .entry)) i j ⌝ }
 {
     let first = firsts[i];
     let second = seconds[i];

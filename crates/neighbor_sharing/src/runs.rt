@@ -1,7 +1,7 @@
 // The runs of one set beside each other.
 use crate::pairs::count_pairs;
-use crate::pairs::edges_between;
 use crate::pairs::is_apart;
+use crate::pairs::table_edges;
 ghost use mathlib.Core.Path.{_≡_};
 ghost use Prim.Native.Nat.{suc, _-_, _≤_, _<_};
 ghost use lib.ListN.{length, getD};
@@ -43,7 +43,7 @@ fn meet_runs(
     let other_to = place(bounds, b + 1);
     let e = place(edges, from);
     let f = place(edges, other_from);
-    let pair = edges_between(nodes, firsts, seconds, lengths, table, e - 1, f - 1);
+    let pair = table_edges(nodes, firsts, seconds, lengths, table, e - 1, f - 1);
     if is_apart(threshold, pair) {
         return 0;
     }

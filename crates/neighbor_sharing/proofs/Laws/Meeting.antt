@@ -22,7 +22,7 @@ use Rattle.prepare.specs.Prepared.{entry}
 use Rattle.prepare.specs.RunPairs.{edgeOf, partOf, runPairs, RunsReady}
 use Rattle.prepare.proofs.Laws.RunPairs.{run-is, run-codes}
 use Rattle.neighbor_sharing.specs.Joined.{reachedBy, isReached, reachedPairs}
-use Rattle.neighbor_sharing.specs.Runs.{edgesBetween, Held, SweepRoom}
+use Rattle.neighbor_sharing.specs.Runs.{tableEdges, Held, SweepRoom}
 use Rattle.neighbor_sharing.specs.Six.{decoded, codeBetween, distanceBetween, Laid, EdgesSweepable}
 use Rattle.neighbor_sharing.specs.declared.sweep.Edges.{Edges}
 
@@ -33,8 +33,8 @@ decoded-code none = refl
 decoded-code (metres n) = refl
 
 -- the codes of two edges are the table's entries
-codes-are : (net : Network) (table : List ℕ) (i j : ℕ) (s s′ : Side) → codeBetween (edgesBetween net table i j) s s′ ≡ entry net table (endNode net i s) (endNode net j s′)
-unfolding codeBetween edgesBetween endNode
+codes-are : (net : Network) (table : List ℕ) (i j : ℕ) (s s′ : Side) → codeBetween (tableEdges net table i j) s s′ ≡ entry net table (endNode net i s) (endNode net j s′)
+unfolding codeBetween tableEdges endNode
 codes-are net table i j at-first at-first = refl
 codes-are net table i j at-first at-second = refl
 codes-are net table i j at-second at-first = refl
@@ -71,26 +71,26 @@ module _ {net : Network} {table es xs bounds : List ℕ} {r q t : ℕ} (w : Runs
     abbrev xs-b : List ℕ
     xs-b = partOf bounds b xs
 
-    distances-are : (s s′ : Side) → distanceBetween (edgesBetween net table i j) s s′ ≡ boundedDistance net (w .bound) (endNode net i s) (endNode net j s′)
+    distances-are : (s s′ : Side) → distanceBetween (tableEdges net table i j) s s′ ≡ boundedDistance net (w .bound) (endNode net i s) (endNode net j s′)
     unfolding distanceBetween
     distances-are s s′ = ap decoded (codes-are net table i j s s′ ∙ run-codes w a b ha la hb lb s s′) ∙ decoded-code _
 
     -- an event of each
-    reached-within : (k l : ℕ) → k < length xs-a → l < length xs-b → isReached t (edgesBetween net table i j) (getD xs-a k 0) (getD xs-b l 0) ≡ within (eventDistance net (event (edgeOf es bounds a) (getD xs-a k 0)) (event (edgeOf es bounds b) (getD xs-b l 0))) t
-    unfolding isReached reachedBy edgesBetween
+    reached-within : (k l : ℕ) → k < length xs-a → l < length xs-b → isReached t (tableEdges net table i j) (getD xs-a k 0) (getD xs-b l 0) ≡ within (eventDistance net (event (edgeOf es bounds a) (getD xs-a k 0)) (event (edgeOf es bounds b) (getD xs-b l 0))) t
+    unfolding isReached reachedBy tableEdges
     reached-within k l h m =
         ap (λ (d : Side → Side → Distance). some-route t d (size net i) (getD xs-a k 0) (size net j) (getD xs-b l 0) || (eqb i j && leb (difference (getD xs-a k 0) (getD xs-b l 0)) t)) (λ n s s′. distances-are s s′ n)
         ∙ sym (event-within net (w .ends) (event (edgeOf es bounds a) (getD xs-a k 0)) (event (edgeOf es bounds b) (getD xs-b l 0)) (run-is w a ha la .is-event k h) (run-is w b hb lb .is-event l m) t (w .bound) (w .within-bound))
 
     -- all of them
-    pub pairs-are : reachedPairs t (edgesBetween net table i j) xs-a xs-b ≡ runPairs net es xs bounds t a b
+    pub pairs-are : reachedPairs t (tableEdges net table i j) xs-a xs-b ≡ runPairs net es xs bounds t a b
     unfolding reachedPairs runPairs
     pairs-are = sum-below-cong (length xs-a) _ _ (λ k h. count-places _ _ xs-b (λ l m. reached-within k l h m))
 
-    pub none-are : ((x y : ℕ) → isReached t (edgesBetween net table i j) x y ≡ false) → 0 ≡ runPairs net es xs bounds t a b
+    pub none-are : ((x y : ℕ) → isReached t (tableEdges net table i j) x y ≡ false) → 0 ≡ runPairs net es xs bounds t a b
     none-are off = sym none ∙ pairs-are
       where
-        none : reachedPairs t (edgesBetween net table i j) xs-a xs-b ≡ 0
+        none : reachedPairs t (tableEdges net table i j) xs-a xs-b ≡ 0
         none = unfold reachedPairs in sum-below-zero (length xs-a) _ (λ k h. none-pass _ xs-b (λ l m. off _ _))
 
 -- the places and the edges that are read for runs a and b
@@ -155,13 +155,13 @@ module _ {net : Network} {table es xs bounds : List ℕ} {a b t : ℕ} (w : Runs
           other-few = omega (arith, w .few);
         })
 
-    module _ (g : Edges) (is : g ≡ edgesBetween net table (e - 1) (f - 1)) where
-      edges-are : g ≡ edgesBetween net table (pred (edgeOf es bounds a)) (pred (edgeOf es bounds b))
+    module _ (g : Edges) (is : g ≡ tableEdges net table (e - 1) (f - 1)) where
+      edges-are : g ≡ tableEdges net table (pred (edgeOf es bounds a)) (pred (edgeOf es bounds b))
       edges-are = is ∙ rw (edge-a, edge-b, sub-one (edgeOf es bounds a), sub-one (edgeOf es bounds b))
 
       -- what the sweep asks
       pub sweepable : (positions moves : List ℕ) → SweepRoom positions moves → EdgesSweepable g (take (to - from) (drop from xs)) (take (other-to - other-from) (drop other-from xs)) positions moves
-      unfolding edgesBetween
+      unfolding tableEdges
       sweepable positions moves room =
           let first = run-laid w a le (omega arith) in
           let second = run-laid w b (omega arith) (omega arith) in

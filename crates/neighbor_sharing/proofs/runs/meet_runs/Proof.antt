@@ -58,20 +58,20 @@ place-requires-5 c κs = let p = c .before .before .before .before .before .befo
 place-requires-6 : tie.Need-place-requires-6
 place-requires-6 c κs = let p = c .before .before .before .before .before .before .before .before .before .before .before .before .before .before .pre in run-listed (p .0) (p .1) _ _ (omega arith) (p .1) (c .before .before .place3 .ensures)
 
-sub-edges-between : tie.Need-sub-edges-between
-sub-edges-between c = first-named c .0
+sub-table-edges : tie.Need-sub-table-edges
+sub-table-edges c = first-named c .0
 
-sub-edges-between-2 : tie.Need-sub-edges-between-2
-sub-edges-between-2 c = second-named c .0
+sub-table-edges-2 : tie.Need-sub-table-edges-2
+sub-table-edges-2 c = second-named c .0
 
-edges-between-requires : tie.Need-edges-between-requires
-edges-between-requires c κs = (ready-held (call c .pre .0), first-named c .1, second-named c .1)
+table-edges-requires : tie.Need-table-edges-requires
+table-edges-requires c κs = (ready-held (call c .pre .0), first-named c .1, second-named c .1)
 
 is-apart-requires : tie.Need-is-apart-requires
 is-apart-requires c κs = search needs
 
 returns : tie.Need-returns
-returns c = let at = c .before .before .before in left-at-once (call at .pre .0) (call at .pre .1) (read at) _ (c .before .before .edges-between .ensures) (c .before .is-apart .ensures (c .if1 .taken))
+returns c = let at = c .before .before .before in left-at-once (call at .pre .0) (call at .pre .1) (read at) _ (c .before .before .table-edges .ensures) (c .before .is-apart .ensures (c .if1 .taken))
 
 mul-count-pairs : tie.Need-mul-count-pairs
 mul-count-pairs c = omega (arith, parts (c .before .before .before))
@@ -98,7 +98,7 @@ part-count-pairs-end-2 : tie.Need-part-count-pairs-end-2
 part-count-pairs-end-2 c = omega (arith, parts (c .before .before .before .before))
 
 count-pairs-requires : tie.Need-count-pairs-requires
-count-pairs-requires c κs = let at = c .before .before .before .before .before .before .before in sweepable (call at .pre .0) (call at .pre .1) (read at) _ (c .before .before .before .before .before .before .edges-between .ensures) _ _ (call at .pre .2)
+count-pairs-requires c κs = let at = c .before .before .before .before .before .before .before in sweepable (call at .pre .0) (call at .pre .1) (read at) _ (c .before .before .before .before .before .before .table-edges .ensures) _ _ (call at .pre .2)
 
 same-length : tie.Need-same-length
 same-length c = search needs
@@ -107,7 +107,7 @@ same-length-2 : tie.Need-same-length-2
 same-length-2 c = search needs
 
 returns-2 : tie.Need-returns-2
-returns-2 c = let at = c .before .before .before .before .before .before .before .before .before .before .before .before in counted (call at .pre .0) (call at .pre .1) (read at) _ (c .before .before .before .before .before .before .before .before .before .before .before .edges-between .ensures) _ (c .before .before .before .before .count-pairs .ensures)
+returns-2 c = let at = c .before .before .before .before .before .before .before .before .before .before .before .before in counted (call at .pre .0) (call at .pre .1) (read at) _ (c .before .before .before .before .before .before .before .before .before .before .before .table-edges .ensures) _ (c .before .before .before .before .count-pairs .ensures)
 
 pub meet-runs-spec : {M : Type 1} → statement M
 meet-runs-spec =
@@ -121,9 +121,9 @@ meet-runs-spec =
     place-requires-4
     place-requires-5
     place-requires-6
-    sub-edges-between
-    sub-edges-between-2
-    edges-between-requires
+    sub-table-edges
+    sub-table-edges-2
+    table-edges-requires
     is-apart-requires
     returns
     mul-count-pairs

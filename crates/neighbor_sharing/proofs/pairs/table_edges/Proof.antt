@@ -1,10 +1,10 @@
 -- Lengths and entries of the two edges.
 use Rattle.prepare.specs.Prepared.{entry}
-use Rattle.neighbor_sharing.specs.Runs.{edgesBetween}
+use Rattle.neighbor_sharing.specs.Runs.{tableEdges}
 use Rattle.neighbor_sharing.proofs.Laws.Apart.{held-entry, same-edges}
 use borrow.Author.Needs.{needs}
-use Rattle.neighbor_sharing.proofs.pairs.edges_between.Statement.{statement}
-use Rattle.neighbor_sharing.proofs.pairs.edges_between.Tie as tie
+use Rattle.neighbor_sharing.proofs.pairs.table_edges.Statement.{statement}
+use Rattle.neighbor_sharing.proofs.pairs.table_edges.Tie as tie
 
 mul-first : tie.Need-mul-first
 mul-first c = search needs
@@ -63,11 +63,11 @@ entry-requires-4 c κs =
     held-entry (p .0) (p .0 .ends .second-is _ (p .1)) (p .0 .ends .second-is _ (p .2))
 
 returns : tie.Need-returns
-unfolding edgesBetween entry
+unfolding tableEdges entry
 returns c = same-edges (c .before .before .before .entry .ensures) (c .before .before .entry2 .ensures) (c .before .entry3 .ensures) (c .entry4 .ensures)
 
-pub edges-between-spec : {M : Type 1} → statement M
-edges-between-spec =
+pub table-edges-spec : {M : Type 1} → statement M
+table-edges-spec =
     tie.close
     (tie.spec
     mul-first
