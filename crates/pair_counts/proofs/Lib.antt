@@ -1,0 +1,2 @@
+-- Proofs of the claim.
+pub mod Laws

@@ -1,0 +1,98 @@
+-- Demand 3 as one promise: three methods, every set and threshold, and the cursors of the set, threshold and two edges asked about.
+use mathlib.Core.Bool.{Bool, true, cond, _&&_, _||_}
+use mathlib.Core.List.{List, map}
+use mathlib.Core.Path.{_≡_}
+use Prim.Native.Nat.{ℕ, _+_, _-_, _*_, _≤_, _<_, min}
+use lib.Dec.{eqb, leb, ltb}
+use lib.ListN.{length, getD, take, drop}
+use Rattle.model.specs.Answer.{written}
+use Rattle.model.specs.Checks.{sameLength, roomCheck, loneEdgeCheck}
+use Rattle.model.specs.Counting.{countIf}
+use Rattle.model.specs.Events.{events, having, greatestSet, setCount}
+use Rattle.model.specs.Limits.{maxSet}
+use Rattle.model.specs.Network.{Network}
+use Rattle.model.specs.PairCount.{CountsJoined}
+use Rattle.model.specs.Refusal.{orElse, unless, badSet}
+use Rattle.model.specs.declared.check.Check.{Check}
+use Rattle.model.specs.declared.check.Check.the-variants.{Accepted, Refused}
+use Rattle.neighbor_sharing.specs.Answers.{cursorPositions, cursorMoves}
+use Rattle.neighbor_sharing.specs.OneWay.{MovesOneWay}
+use Rattle.prepare.specs.Counts.{countsCheck, countTable}
+use Rattle.prepare.specs.Prepared.{laidOutSet, greatest}
+
+-- of two checks the refusal with the lower number, then the lower place
+unfoldable pub lowest : Check → Check → Check
+lowest Accepted b = b
+lowest (Refused n p) Accepted = Refused n p
+lowest (Refused n p) (Refused m q) = cond (ltb n m || (eqb n m && leb p q)) (Refused n p) (Refused m q)
+
+-- how many events of set s lie on edge e
+unfoldable pub onEdge : List ℕ → List ℕ → ℕ → ℕ → ℕ
+onEdge sets es s e = countIf (λ f. eqb f e) (having s sets es)
+
+-- 2: room for six cursors' positions at each event on the first edge, and for their moves
+unfoldable pub cursorRoom : List ℕ → List ℕ → ℕ → ℕ → List ℕ → List ℕ → Check
+cursorRoom sets es s e ps ms =
+    orElse (sameLength sets es) (orElse (roomCheck (6 * onEdge sets es s e) ps) (roomCheck 6 ms))
+
+-- 12 and 13 for the set and the two edges asked about, each at place 0
+unfoldable pub askedCheck : Network → ℕ → ℕ → ℕ → Check
+askedCheck net s e f = orElse (unless (leb s maxSet) badSet 0) (orElse (loneEdgeCheck net e) (loneEdgeCheck net f))
+
+-- all of it: the lowest number decides, then the lowest place
+unfoldable pub claimCheck : Network → List ℕ → List ℕ → List ℕ → List ℕ → ℕ → ℕ → ℕ → ℕ → List ℕ → List ℕ → Check
+claimCheck net sets es xs ts s e f room ps ms =
+    lowest (cursorRoom sets es s e ps ms) (lowest (askedCheck net s e f) (countsCheck net sets es xs ts room))
+
+-- the edges and the offsets of set s, laid out
+unfoldable pub setEdges : List ℕ → List ℕ → List ℕ → ℕ → List ℕ
+setEdges sets es xs s = map (λ e. e .edge) (laidOutSet sets (events es xs) s)
+
+unfoldable pub setOffsets : List ℕ → List ℕ → List ℕ → ℕ → List ℕ
+setOffsets sets es xs s = map (λ e. e .offset) (laidOutSet sets (events es xs) s)
+
+-- every entry of a list of counts is the number of ordered pairs of different events of its set that some walk no longer than its
+-- threshold joins
+pub record AllJoined (net : Network) (sets es xs ts counts : List ℕ) : Type 0 where
+  pub joined : (u k : ℕ) → u < setCount sets → k < length ts → CountsJoined net (having u sets (events es xs)) (getD ts k 0) (getD counts (u * length ts + k) 0)
+
+-- the promise. The lists: three of counts, one to a method; the positions of the cursors of set s at threshold t on edges e and f,
+-- from distances bounded by the greatest threshold; and their moves
+module _ (net : Network) (sets es xs ts : List ℕ) (s t e f : ℕ) where
+  pub record PairCountsAnswered (ranged augmented shared ps ms : List ℕ) (r : Check) (ranged′ augmented′ shared′ ps′ ms′ : List ℕ) : Type 0 where
+    pub verdict : r ≡ claimCheck net sets es xs ts s e f (min (length ranged) (min (length augmented) (length shared))) ps ms
+    pub by-range : ranged′ ≡ written r (countTable net sets (events es xs) ts) ranged
+    pub by-augmentation : augmented′ ≡ written r (countTable net sets (events es xs) ts) augmented
+    pub by-sharing : shared′ ≡ written r (countTable net sets (events es xs) ts) shared
+    pub positions-after : ps′ ≡ written r (cursorPositions net (setEdges sets es xs s) (setOffsets sets es xs s) e f t (greatest ts)) ps
+    pub moves-after : ms′ ≡ written r (cursorMoves net (setEdges sets es xs s) (setOffsets sets es xs s) e f t (greatest ts)) ms
+    pub range-joined : r ≡ Accepted → AllJoined net sets es xs ts ranged′
+    pub augmentation-joined : r ≡ Accepted → AllJoined net sets es xs ts augmented′
+    pub sharing-joined : r ≡ Accepted → AllJoined net sets es xs ts shared′
+    pub one-way : r ≡ Accepted → MovesOneWay net (setEdges sets es xs s) (setOffsets sets es xs s) e f t (greatest ts)
+
+-- where there is such a set, its first run and that run's first place are in the lists
+pub record BoundAsked (setRuns bounds : List ℕ) (exists : Bool) (s : ℕ) : Type 0 where
+  pub in-runs : exists ≡ true → s < length setRuns
+  pub in-bounds : exists ≡ true → getD setRuns s 0 < length bounds
+
+-- where the runs of set s begin among the laid-out events, if there is such a set
+unfoldable pub boundOf : List ℕ → List ℕ → Bool → ℕ → ℕ
+boundOf setRuns bounds exists s = cond exists (getD bounds (getD setRuns s 0) 0) 0
+
+-- the set's part of a laid-out list
+unfoldable pub setPart : List ℕ → List ℕ → List ℕ → ℕ → List ℕ → List ℕ
+setPart sets setRuns bounds s l =
+    let from = boundOf setRuns bounds (leb s (greatestSet sets)) s in
+    let to = boundOf setRuns bounds (leb s (greatestSet sets)) (s + 1) in
+    take (to - from) (drop from l)
+
+-- the set's part lies within the laid-out lists, and there is a threshold
+pub record SweepAsked (sets ts edges offsets bounds setRuns : List ℕ) (s : ℕ) : Type 0 where
+  pub thresholds : 1 ≤ length ts
+  pub small : s ≤ maxSet
+  pub begin : BoundAsked setRuns bounds (leb s (greatestSet sets)) s
+  pub end : BoundAsked setRuns bounds (leb s (greatestSet sets)) (s + 1)
+  pub in-order : boundOf setRuns bounds (leb s (greatestSet sets)) s ≤ boundOf setRuns bounds (leb s (greatestSet sets)) (s + 1)
+  pub in-edges : boundOf setRuns bounds (leb s (greatestSet sets)) (s + 1) ≤ length edges
+  pub in-offsets : boundOf setRuns bounds (leb s (greatestSet sets)) (s + 1) ≤ length offsets

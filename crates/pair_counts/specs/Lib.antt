@@ -1,0 +1,2 @@
+-- Demand 3 as one promise.
+pub mod Claim
