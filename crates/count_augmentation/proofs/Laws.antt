@@ -11,3 +11,4 @@ pub mod Totals
 pub mod Rows
 pub mod Verdict
 pub mod Edges
+pub mod Answers

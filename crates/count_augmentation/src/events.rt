@@ -63,3 +63,40 @@ fn check_augment(
     }
     validate::check_laid_out(nodes, firsts, seconds, lengths, edges, offsets, 1)
 }
+
+// With each event of a laid-out set, how many on its edge lie no farther from the edge's first end, and how many no farther from
+// the second, itself and equals included.
+pub fn augment(
+    nodes: u32,
+    firsts: &[u32],
+    seconds: &[u32],
+    lengths: &[u32],
+    edges: &[u32],
+    offsets: &[u32],
+    near_first: &mut [u32],
+    near_second: &mut [u32],
+) -> Check
+    ensures { λ r. ⌜ Augmented (network nodes (now (firsts .entry)) (now (seconds .entry)) (now (lengths .entry))) (now (edges .entry)) (now (offsets .entry)) (now («near_first» .entry)) (now («near_second» .entry)) r (now («near_first» .exit)) (now («near_second» .exit)) ⌝ }
+{
+    let verdict = check_augment(
+        nodes,
+        firsts,
+        seconds,
+        lengths,
+        edges,
+        offsets,
+        near_first,
+        near_second,
+    );
+    if let Check::Refused(_, _) = verdict {
+        return verdict;
+    }
+    let count = edges.len();
+    store_events(
+        edges,
+        offsets,
+        &mut near_first[..count],
+        &mut near_second[..count],
+    );
+    verdict
+}

@@ -8,4 +8,5 @@ mod runs;
 mod sets;
 mod store;
 
+pub use events::augment;
 pub use sets::counts;

@@ -19,7 +19,7 @@ use Rattle.prepare.specs.Prepared.{entry}
 use Rattle.prepare.proofs.Laws.Laying.{map-length}
 
 -- the entry of a list made from successive numbers
-from-numbers : (f : ℕ → ℕ) (start n i : ℕ) → i < n → getD (map f (numbersFrom start n)) i 0 ≡ f (start + i)
+pub from-numbers : (f : ℕ → ℕ) (start n i : ℕ) → i < n → getD (map f (numbersFrom start n)) i 0 ≡ f (start + i)
 unfolding numbersFrom
 from-numbers f start zero i h = absurd (omega arith)
 from-numbers f start (suc n) zero h = ap f (omega arith)
