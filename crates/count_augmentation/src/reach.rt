@@ -40,7 +40,7 @@ fn union(places: u64, first: u64, last: u64, below: u64, upto: u64) -> u64
     less(less(places, before_window), behind_window)
 }
 
-// On another edge: from its two ends. Nothing is looked up where neither is within reach.
+// On another edge: from its two ends, at most all of the run. Nothing is looked up where neither is within reach.
 fn count_by_ends(
     offsets: &[u32],
     near_first: &[u32],
@@ -61,7 +61,9 @@ fn count_by_ends(
     }
     let first = count_below(offsets, near_first, to_first) as u64;
     let last = count_from(offsets, near_second, less(size as u64 + 1, to_second)) as u64;
-    union(offsets.len() as u64, first, last, first, first)
+    let both = first + last;
+    let places = offsets.len() as u64;
+    lesser(both, places)
 }
 
 // On the event's own edge: from the two ends, and in the window around it.

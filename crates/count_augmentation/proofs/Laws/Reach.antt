@@ -61,6 +61,18 @@ no-place p k = go (decLe p k)
     go (yes l) = simp (le-leb p k l, le-ltb k p l)
     go (no l) = simp (lt-leb p k (omega arith))
 
+no-gap : (m k : ℕ) → min m k - m ≡ 0
+no-gap m k = omega arith
+
+max-self : (m : ℕ) → max m m ≡ m
+max-self m = omega arith
+
+-- the first m and the last n of l places, as a sum
+summed : (l m n : ℕ) → m ≤ l → n ≤ l → min (m + n) l ≡ together l m n m m
+unfolding together
+summed l m n h k =
+    rw (no-gap m (l - n), max-self m) (omega arith)
+
 -- nothing is within reach
 pub nothing-reached : (q : ℕ) (ys : List ℕ) (f s t x : ℕ) → f ≡ 0 → s ≡ 0 → 0 ≡ reached q f s false t x ys
 unfolding reached isReached
@@ -74,11 +86,17 @@ module _ (q : ℕ) (ys : List ℕ) (rising : Rising ys) (on-edge : OnEdge q ys) 
   second-last k h = second-limit q s (getD ys k 0) (on-edge .on k h) ∙ from-last ys rising (suc q - s) k h
 
   -- from the two ends
-  pub reached-by-ends : together (length ys) (below-limit ys f) (from-limit ys (suc q - s)) (below-limit ys f) (below-limit ys f) ≡ reached q f s false t x ys
+  reached-by-ends : together (length ys) (below-limit ys f) (from-limit ys (suc q - s)) (below-limit ys f) (below-limit ys f) ≡ reached q f s false t x ys
   unfolding reached isReached together
   reached-by-ends =
       sym (cover-list ys (λ y. ltb y f) (λ y. ltb (q - y) s) (λ y. false) (below-limit ys f) (from-limit ys (suc q - s)) (below-limit ys f) (below-limit ys f)
       (omega arith) (below-first ys rising f) second-last (λ k h. no-place (below-limit ys f) k))
+
+  -- the sum of both, at most all
+  pub ends-summed : (m n : ℕ) → m ≡ below-limit ys f → n ≡ from-limit ys (suc q - s) → min (m + n) (length ys) ≡ reached q f s false t x ys
+  ends-summed m n first last =
+      summed (length ys) m n (rw first (count-at-most _ ys)) (rw last (count-at-most _ ys))
+      ∙ ap₂ (λ (m n : ℕ). together (length ys) m n m m) first last ∙ reached-by-ends
 
   -- the window does not end before it begins
   window-opens : length ys - from-limit ys (x - t) ≤ below-limit ys (x + t + 1)
