@@ -1,6 +1,5 @@
 -- What the functions over the runs of a set keep: cited by inner functions alone.
 use mathlib.Core.List.{List}
-use mathlib.Core.Path.{_≡_}
 use Prim.Native.Nat.{ℕ, suc, _≤_, _<_}
 use lib.ListN.{length, getD}
 use Rattle.model.specs.Limits.{maxEvents}

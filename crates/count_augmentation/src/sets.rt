@@ -1,7 +1,7 @@
 // The counts of all sets at all thresholds.
 ghost use mathlib.Core.Path.{_≡_};
-ghost use Prim.Native.Nat.{_≤_};
-ghost use lib.ListN.{length};
+ghost use Prim.Native.Nat.{_≤_, _<_};
+ghost use lib.ListN.{length, getD};
 ghost use Rattle.model.specs.Limits.{maxEvents};
 ghost use Rattle.model.specs.Network.{network};
 ghost use Rattle.prepare.specs.Counts.{CountsAnswered};
@@ -12,6 +12,13 @@ use crate::runs::set_total;
 use crate::runs::store_runs;
 use model::Check;
 use model::EventSet;
+
+fn threshold_at(thresholds: &[u32], k: usize) -> u32
+    requires { ⌜ k < length (now thresholds) ⌝ }
+    ensures { λ t. ⌜ t ≡ getD (now (thresholds .entry)) k 0 ⌝ }
+{
+    thresholds[k]
+}
 
 // The counts of a set at each threshold, the numbers of its runs being stored.
 fn write_row(
@@ -35,6 +42,7 @@ fn write_row(
 {
     let mut k = 0;
     while k < row.len() {
+        let threshold = threshold_at(thresholds, k);
         row[k] = set_total(
             nodes,
             firsts,
@@ -46,7 +54,7 @@ fn write_row(
             bounds,
             near_first,
             near_second,
-            thresholds[k],
+            threshold,
             r,
             q,
         );

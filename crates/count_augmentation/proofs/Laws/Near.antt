@@ -1,7 +1,6 @@
 -- What an event reaches by the table's entries is what lies within the threshold of it.
 use mathlib.Core.Bool.{Bool, true, false, not, _&&_, _||_}
-use mathlib.Core.Path.{_≡_, refl, sym, ap, ap₂, _∙_}
-use mathlib.Core.List.{List}
+use mathlib.Core.Path.{_≡_, refl, sym, ap₂, _∙_}
 use Prim.Native.Nat.{ℕ, zero, suc, pred, _+_, _-_, _≤_, _<_, max}
 use native.Mathlib.Decide.{decLt}
 use native.Mathlib.Omega.{arith}
@@ -10,7 +9,7 @@ use lib.Dec.{eqb, leb, ltb, eqb·suc-zero}
 use Rattle.model.proofs.Laws.Routes.{event-within, reaches-code}
 use Rattle.model.specs.Distance.{Distance, within, code, difference}
 use Rattle.model.specs.Events.{Event, IsEvent}
-use Rattle.model.specs.Location.{Side, at-first, at-second, endNode, gap, reaches}
+use Rattle.model.specs.Location.{endNode, gap, reaches}
 use Rattle.model.specs.Network.{Network, EndsAreNodes, first, second, size}
 use Rattle.model.specs.NodeDistance.{boundedDistance}
 use Rattle.model.specs.PairCount.{eventDistance}

@@ -9,7 +9,7 @@ use borrow.Author.Tests.{le-leb, lt-leb, lt-ltb, le-ltb}
 use lib.Dec.{leb, ltb}
 use lib.ListN.{length, getD}
 use Rattle.model.proofs.Laws.Counting.{count-below-list, count-below-cong}
-use Rattle.model.specs.Counting.{one-if, countIf, countBelow}
+use Rattle.model.specs.Counting.{one-if, countIf}
 use Rattle.model.specs.Location.{at-first, at-second, gap}
 use Rattle.count_augmentation.specs.Augmented.{noFarther}
 use Rattle.count_augmentation.specs.Storing.{Rising, atMost, atLeast, OnEdge, NumbersStored, Parted}

@@ -1,15 +1,15 @@
 -- What an event reaches of a run: first places, last places and a window, each told by a stored number.
-use mathlib.Core.Bool.{Bool, true, false, not, _&&_, _||_}
+use mathlib.Core.Bool.{true, false, not, _&&_}
 use mathlib.Core.List.{List}
-use mathlib.Core.Path.{_≡_, refl, sym, ap, ap₂, _∙_}
-use Prim.Native.Nat.{ℕ, suc, pred, _+_, _-_, _≤_, _<_, min, max}
+use mathlib.Core.Path.{_≡_, sym, ap₂, _∙_}
+use Prim.Native.Nat.{ℕ, suc, _+_, _-_, _≤_, _<_, min, max}
 use native.Mathlib.Decide.{decLe, decLt}
 use native.Mathlib.Omega.{arith}
 use borrow.Author.Tests.{le-leb, lt-leb, lt-ltb, le-ltb, leb-true, leb-false, ltb-true, not-true}
 use lib.Dec.{leb, ltb}
 use lib.ListN.{length, getD}
 use Rattle.model.proofs.Laws.Counting.{count-mono, count-at-most}
-use Rattle.model.proofs.Laws.Cover.{covered, cover-list, first-places, last-places}
+use Rattle.model.proofs.Laws.Cover.{cover-list, first-places, last-places}
 use Rattle.model.specs.Counting.{countIf}
 use Rattle.model.specs.Distance.{difference}
 use Rattle.count_augmentation.specs.Reach.{isReached, reached, together, Run}

@@ -3,7 +3,7 @@ use mathlib.Core.List.{List}
 use mathlib.Core.Path.{_≡_, refl, sym, ap, _∙_}
 use Prim.Native.Nat.{ℕ, suc, _+_, _-_, _*_, _≤_, _<_}
 use native.Mathlib.Omega.{arith}
-use lib.ListN.{length, getD}
+use lib.ListN.{getD}
 use Rattle.model.specs.Network.{Network}
 use Rattle.prepare.proofs.Laws.RunPairs.{ready-to, ready-from, earlier-none, earlier-next, all-none, all-next}
 use Rattle.prepare.specs.RunPairs.{runPairs, earlierPairs, allPairs, otherPairs, SumFits, RunsReady}

@@ -1,21 +1,20 @@
 -- The verdict of storing, put together from the checks that are made, and what acceptance tells.
-use mathlib.Core.Bool.{Bool, false, true≢false}
+use mathlib.Core.Bool.{false, true≢false}
 use mathlib.Core.List.{List}
 use mathlib.Core.Path.{_≡_, refl, sym, ap, _∙_}
-use Prim.Native.Nat.{ℕ, suc, pred, _≤_, _<_}
+use Prim.Native.Nat.{ℕ, suc, _≤_, _<_}
 use native.Mathlib.Decide.{decLe}
 use native.Mathlib.Omega.{arith}
 use borrow.Author.Tests.{le-leb, lt-leb, leb-true, lt-ltb, le-ltb, eq-eqb}
-use lib.Dec.{leb}
 use lib.ListN.{length, getD}
 use Rattle.model.proofs.Laws.CheckParts.{sizes-accepted, order-accepted}
 use Rattle.model.proofs.Laws.Checks.{LaidOutAccepted, laid-out-accepted}
 use Rattle.model.proofs.Laws.Refusal.{or-else-next, or-else-refused, unless-accepts, unless-refuses, unless-accepted, both-accepted, true-between}
 use Rattle.model.proofs.Laws.Stretch.{laid-out-rise}
-use Rattle.model.specs.Checks.{sameLength, networkLists, eventLists, roomCheck, networkValues, loneEdgeCheck, eventValues, orderCheck, laidOutCheck}
+use Rattle.model.specs.Checks.{sameLength, networkLists, eventLists, roomCheck, networkValues, loneEdgeCheck, laidOutCheck}
 use Rattle.model.specs.Events.{Event, event, before}
 use Rattle.model.specs.Network.{Network, edges}
-use Rattle.model.specs.Refusal.{orElse, unless, listsDiffer, noEdge}
+use Rattle.model.specs.Refusal.{orElse, listsDiffer, noEdge}
 use Rattle.model.specs.declared.check.Check.{Check}
 use Rattle.model.specs.declared.check.Check.the-variants.{Accepted, Refused}
 use Rattle.prepare.proofs.Laws.Verdict.{two-or-accepted, or-else-assoc}

@@ -1,7 +1,5 @@
 -- On refusal both lists are kept; otherwise the stored numbers stand in front.
-use mathlib.Core.Path.{_≡_, refl, sym, _∙_}
-use Prim.Native.Nat.{_≤_}
-use native.Mathlib.Omega.{arith}
+use mathlib.Core.Path.{sym, _∙_}
 use Rattle.model.specs.Network.{network}
 use Rattle.count_augmentation.proofs.Laws.Verdict.{AugmentAccepted, augment-accepted}
 use lib.Seq.{length-take-le}

@@ -1,8 +1,6 @@
 -- The events passed lie on the same edge.
-use mathlib.Core.Path.{_≡_, refl, sym, _∙_}
-use Prim.Native.Nat.{ℕ, _-_, _≤_, _<_}
-use native.Mathlib.Omega.{arith}
-use lib.ListN.{length, getD}
+use Prim.Native.Nat.{_-_}
+use lib.ListN.{length}
 use Rattle.count_augmentation.proofs.Laws.Edges.{OneEdge, edge-begins, edge-on, edge-ends, edge-all}
 use borrow.Author.Needs.{needs}
 use Rattle.count_augmentation.proofs.events.run_end.Statement.{statement}

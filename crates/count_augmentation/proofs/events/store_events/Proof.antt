@@ -1,5 +1,4 @@
 -- The events in front of the place reached are stored; each turn stores those of one edge.
-use mathlib.Core.Path.{_∙_}
 use Prim.Native.Nat.{_-_}
 use native.Mathlib.Omega.{arith}
 use lib.ListN.{length}

@@ -1,5 +1,5 @@
 -- The number stored with the last offset below the limit.
-use mathlib.Core.Path.{_≡_, sym, ap, _∙_}
+use mathlib.Core.Path.{sym, ap, _∙_}
 use Prim.Native.Nat.{ℕ, pred, _-_}
 use native.Mathlib.Omega.{arith}
 use lib.ListN.{getD}

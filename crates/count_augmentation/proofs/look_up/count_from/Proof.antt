@@ -1,5 +1,5 @@
 -- The number stored with the first offset not below the limit.
-use mathlib.Core.Path.{_≡_, sym, _∙_}
+use mathlib.Core.Path.{sym, _∙_}
 use native.Mathlib.Omega.{arith}
 use Rattle.count_augmentation.proofs.Laws.Places.{from-stored, none-from}
 use borrow.Author.Needs.{needs}

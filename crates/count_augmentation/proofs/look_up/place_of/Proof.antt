@@ -1,7 +1,6 @@
 -- The place looked for lies between low and high, which close in on it.
-use Prim.Native.Nat.{_+_, _-_, _/_, _≤_}
+use Prim.Native.Nat.{_+_, _-_, _/_}
 use native.Mathlib.Omega.{arith}
-use borrow.Author.Needs.{needs}
 use Rattle.count_augmentation.proofs.Laws.Halving.{Bracket, bracket-begins, bracket-up, bracket-down, bracket-ends}
 use Rattle.count_augmentation.proofs.look_up.place_of.Statement.{statement}
 use Rattle.count_augmentation.proofs.look_up.place_of.Tie as tie

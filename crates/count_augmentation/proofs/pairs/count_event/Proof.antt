@@ -2,7 +2,6 @@
 use mathlib.Core.Path.{_≡_, ap₂, _∙_}
 use Prim.Native.Nat.{ℕ}
 use native.Mathlib.Omega.{arith}
-use lib.ListN.{length}
 use Rattle.count_augmentation.specs.Pairs.{reachedBy}
 use Rattle.count_augmentation.specs.Reach.{reached}
 use Rattle.count_augmentation.proofs.Laws.Pairs.{reached-few}

@@ -1,5 +1,4 @@
 -- Lengths and entries of the two edges.
-use mathlib.Core.Path.{_≡_}
 use Rattle.prepare.specs.Prepared.{entry}
 use Rattle.count_augmentation.specs.Pairs.{edgePair}
 use Rattle.count_augmentation.proofs.Laws.Pairs.{has-entry, same-pair}

@@ -1,7 +1,5 @@
 -- With no gap at all no route is within the threshold, and so with none.
 use mathlib.Core.Bool.{false≢true}
-use mathlib.Core.Path.{_≡_, sym, _∙_}
-use Prim.Native.Nat.{ℕ}
 use native.Mathlib.Omega.{arith}
 use borrow.Author.Tests.{eqb-true}
 use Rattle.count_augmentation.proofs.Laws.Pairs.{none-reached}

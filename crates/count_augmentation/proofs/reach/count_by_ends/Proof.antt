@@ -1,8 +1,7 @@
 -- Nothing, or the first and the last places, whose overlap is counted once.
 use mathlib.Core.Path.{_≡_, ap, _∙_}
-use Prim.Native.Nat.{ℕ, suc, _+_, _-_}
+use Prim.Native.Nat.{ℕ, suc, _-_}
 use native.Mathlib.Numerals.{add-one}
-use native.Mathlib.Omega.{arith}
 use Rattle.count_augmentation.proofs.Laws.Reach.{from-limit, nothing-reached, ends-summed, look-first, look-second}
 use borrow.Author.Needs.{needs}
 use Rattle.count_augmentation.proofs.reach.count_by_ends.Statement.{statement}

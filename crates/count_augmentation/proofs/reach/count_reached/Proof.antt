@@ -1,7 +1,4 @@
 -- By the ends, on the event's own edge by the window too.
-use mathlib.Core.Bool.{Bool}
-use mathlib.Core.Path.{_≡_, sym, ap, _∙_}
-use Rattle.count_augmentation.specs.Reach.{reached}
 use borrow.Author.Needs.{needs}
 use Rattle.count_augmentation.proofs.reach.count_reached.Statement.{statement}
 use Rattle.count_augmentation.proofs.reach.count_reached.Tie as tie

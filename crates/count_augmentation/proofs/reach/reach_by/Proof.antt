@@ -1,6 +1,6 @@
 -- The entry 0 reaches nothing; another stands for one metre less.
-use mathlib.Core.Path.{_≡_, sym, ap, _∙_}
-use Prim.Native.Nat.{ℕ, suc, pred, _+_, _-_}
+use mathlib.Core.Path.{sym}
+use Prim.Native.Nat.{_-_}
 use native.Mathlib.Omega.{arith}
 use borrow.Author.Tests.{eq-eqb, ne-eqb}
 use Rattle.count_augmentation.specs.Reach.{reachOf}

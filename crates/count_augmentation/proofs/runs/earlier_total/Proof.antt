@@ -1,5 +1,5 @@
 -- The sum over the earlier runs passed.
-use Prim.Native.Nat.{_-_, _≤_}
+use Prim.Native.Nat.{_-_}
 use native.Mathlib.Omega.{arith}
 use Rattle.model.specs.Network.{network}
 use Rattle.count_augmentation.proofs.Laws.Totals.{EarlierTo, ready-part, earlier-begins, earlier-on, earlier-ends}

@@ -1,7 +1,5 @@
 -- The numbers of the set's runs are stored, and the row is written from them.
-use native.Mathlib.Omega.{arith}
 use Rattle.count_augmentation.proofs.Laws.Rows.{runs-storable}
-use borrow.Author.Needs.{needs}
 use Rattle.count_augmentation.proofs.sets.set_row.Statement.{statement}
 use Rattle.count_augmentation.proofs.sets.set_row.Tie as tie
 

@@ -1,9 +1,10 @@
 -- The row holds the counts at the thresholds passed.
-use mathlib.Core.Path.{_≡_, refl, _∙_}
-use Prim.Native.Nat.{_+_, _-_, _≤_, _<_}
+use mathlib.Core.Path.{_≡_, refl, ap, _∙_}
+use Prim.Native.Nat.{ℕ, _+_, _-_, _≤_, _<_}
 use native.Mathlib.Omega.{arith}
 use lib.ListN.{length, length-set}
 use Rattle.model.specs.Network.{network}
+use Rattle.prepare.specs.RunPairs.{otherPairs}
 use Rattle.count_augmentation.proofs.Laws.Rows.{othersAt, row-begins, row-filled}
 use Rattle.count_augmentation.proofs.Laws.Storing.{Filled, fills}
 use borrow.Author.Needs.{needs}
@@ -20,16 +21,17 @@ abbrev μ-loop : tie.MeasureT-loop
 loop-holds : tie.Need-loop-holds Inv-loop μ-loop
 loop-holds c = (refl, omega arith, row-begins _ _ _ _ _ _ _ _)
 
-mul-set-total : tie.Need-mul-set-total Inv-loop μ-loop
-mul-set-total c = omega arith
+-- there is a threshold for the next place
+inside : (c : tie.In-loop Inv-loop μ-loop) → c .before .loop .k < length (c .before .before .before .before .before .before .before .before .before .before .before .before .before .args .thresholds .now)
+inside c = omega (arith, c .before .loop .inv .0, c .before .before .before .before .before .before .before .before .before .before .before .before .before .pre .2, c .loop-test .taken)
 
-shared-slice-read-set-total : tie.Need-shared-slice-read-set-total Inv-loop μ-loop
-shared-slice-read-set-total c = omega (arith, c .before .before .loop .inv .0, c .before .before .before .before .before .before .before .before .before .before .before .before .before .before .pre .2)
+threshold-at-requires : tie.Need-threshold-at-requires Inv-loop μ-loop
+threshold-at-requires c κs = omega (arith, inside c)
 
 set-total-requires : tie.Need-set-total-requires Inv-loop μ-loop
 set-total-requires c κs =
-    let inside : c .before .before .loop .k < length (c .before .before .before .before .before .before .before .before .before .before .before .before .before .before .args .thresholds .now) = omega (arith, c .before .before .loop .inv .0, c .before .before .before .before .before .before .before .before .before .before .before .before .before .before .pre .2, c .before .loop-test .taken) in
-    (c .before .before .before .before .before .before .before .before .before .before .before .before .before .before .pre .0 .ready-at _ inside, c .before .before .before .before .before .before .before .before .before .before .before .before .before .before .pre .0 .fits-at _ inside, c .before .before .before .before .before .before .before .before .before .before .before .before .before .before .pre .1)
+    let here = inside (c .before) in
+    rw (c .threshold-at .ensures) (c .before .before .before .before .before .before .before .before .before .before .before .before .before .before .pre .0 .ready-at _ here, c .before .before .before .before .before .before .before .before .before .before .before .before .before .before .pre .0 .fits-at _ here, c .before .before .before .before .before .before .before .before .before .before .before .before .before .before .pre .1)
 
 mul-row : tie.Need-mul-row Inv-loop μ-loop
 mul-row c = omega (arith, c .before .before .loop-test .taken, c .before .before .before .loop .inv .0, c .before .before .before .before .before .before .before .before .before .before .before .before .before .before .before .good)
@@ -48,7 +50,7 @@ unfolding othersAt
 loop-again c = (
   simp length-set (c .before .before .before .loop .inv .0),
   omega (arith, c .before .before .before .loop .inv .0, c .before .before .loop-test .taken),
-  fills _ (c .before .before .before .loop .row) 0 (c .before .before .before .loop .k) 0 (c .before .before .before .loop .k + 1) (c .before .before .before .loop .k) _ (c .before .before .before .loop .inv .2) (c .before .before .loop-test .taken) (c .set-total .ensures) (λ j l m other. (l, omega arith)),
+  fills _ (c .before .before .before .loop .row) 0 (c .before .before .before .loop .k) 0 (c .before .before .before .loop .k + 1) (c .before .before .before .loop .k) _ (c .before .before .before .loop .inv .2) (c .before .before .loop-test .taken) (c .set-total .ensures ∙ ap (λ (t : ℕ). otherPairs (network (c .before .before .before .before .before .before .before .before .before .before .before .before .before .before .before .args .nodes) (c .before .before .before .before .before .before .before .before .before .before .before .before .before .before .before .args .firsts .now) (c .before .before .before .before .before .before .before .before .before .before .before .before .before .before .before .args .seconds .now) (c .before .before .before .before .before .before .before .before .before .before .before .before .before .before .before .args .lengths .now)) (c .before .before .before .before .before .before .before .before .before .before .before .before .before .before .before .args .edges .now) (c .before .before .before .before .before .before .before .before .before .before .before .before .before .before .before .args .offsets .now) (c .before .before .before .before .before .before .before .before .before .before .before .before .before .before .before .args .bounds .now) t (c .before .before .before .before .before .before .before .before .before .before .before .before .before .before .before .args .r) (c .before .before .before .before .before .before .before .before .before .before .before .before .before .before .before .args .q)) (c .before .threshold-at .ensures)) (λ j l m other. (l, omega arith)),
 )
 
 same-length : tie.Need-same-length Inv-loop μ-loop
@@ -64,8 +66,7 @@ write-row-spec =
     Inv-loop
     μ-loop
     loop-holds
-    mul-set-total
-    shared-slice-read-set-total
+    threshold-at-requires
     set-total-requires
     mul-row
     slice-write-row

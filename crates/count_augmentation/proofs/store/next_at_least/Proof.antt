@@ -1,6 +1,6 @@
 -- Equal offsets share their number; the first of its kind has as many from it on as are left.
 use mathlib.Core.Path.{_≡_, sym, ap, _∙_}
-use Prim.Native.Nat.{ℕ, suc, pred, _-_}
+use Prim.Native.Nat.{ℕ, pred, _-_}
 use native.Mathlib.Omega.{arith}
 use lib.ListN.{getD}
 use Rattle.count_augmentation.specs.Storing.{atLeast}

@@ -1,5 +1,4 @@
 -- One pass from the back: the places from k on are filled, and the number at hand is that of place k.
-use mathlib.Core.List.{List}
 use mathlib.Core.Path.{_≡_, sym, ap, _∙_}
 use Prim.Native.Nat.{ℕ, suc, _-_, _≤_, _<_}
 use native.Mathlib.Omega.{arith}

@@ -1,5 +1,4 @@
 -- One pass from the front: the places before k are filled, and the number at hand is that of the place before k.
-use mathlib.Core.List.{List}
 use mathlib.Core.Path.{_≡_, sym, ap, _∙_}
 use Prim.Native.Nat.{ℕ, pred, _+_, _-_, _≤_, _<_}
 use native.Mathlib.Omega.{arith}
