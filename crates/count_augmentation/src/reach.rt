@@ -40,7 +40,8 @@ fn union(places: u64, first: u64, last: u64, below: u64, upto: u64) -> u64
     less(less(places, before_window), behind_window)
 }
 
-// On another edge: from its two ends, at most all of the run. Nothing is looked up where neither is within reach.
+// On another edge: from its two ends, at most all of the run. Nothing is looked up where neither end is within reach, or the whole
+// edge is from one of them.
 fn count_by_ends(
     offsets: &[u32],
     near_first: &[u32],
@@ -59,10 +60,17 @@ fn count_by_ends(
             return 0;
         }
     }
-    let first = count_below(offsets, near_first, to_first) as u64;
-    let last = count_from(offsets, near_second, less(size as u64 + 1, to_second)) as u64;
-    let both = first + last;
     let places = offsets.len() as u64;
+    let whole = size as u64;
+    if whole < to_first {
+        return places;
+    }
+    if whole < to_second {
+        return places;
+    }
+    let first = count_below(offsets, near_first, to_first) as u64;
+    let last = count_from(offsets, near_second, less(whole + 1, to_second)) as u64;
+    let both = first + last;
     lesser(both, places)
 }
 

@@ -1,7 +1,7 @@
 -- What an event reaches of a run: first places, last places and a window, each told by a stored number.
-use mathlib.Core.Bool.{true, false, not, _&&_}
+use mathlib.Core.Bool.{Bool, true, false, not, _&&_, _||_}
 use mathlib.Core.List.{List}
-use mathlib.Core.Path.{_≡_, sym, ap₂, _∙_}
+use mathlib.Core.Path.{_≡_, refl, sym, ap₂, _∙_}
 use Prim.Native.Nat.{ℕ, suc, _+_, _-_, _≤_, _<_, min, max}
 use native.Mathlib.Decide.{decLe, decLt}
 use native.Mathlib.Omega.{arith}
@@ -79,6 +79,26 @@ unfolding reached isReached
 nothing-reached q ys f s t x e g =
     sym (count-before _ ys 0 (omega arith) (λ k l. absurd (omega arith))
     (λ k l m. simp (le-ltb (getD ys k 0) f (omega arith), le-ltb (q - getD ys k 0) s (omega arith))))
+
+-- the whole edge is within reach of one end
+second-holds : (a w : Bool) → ((a || true) || w) ≡ true
+second-holds true w = refl
+second-holds false w = refl
+
+module _ (q : ℕ) (ys : List ℕ) (on-edge : OnEdge q ys) (f s t x : ℕ) where
+  pub all-from-first : q < f → length ys ≡ reached q f s false t x ys
+  unfolding reached isReached
+  all-from-first h =
+      sym (count-before _ ys (length ys) (omega arith)
+      (λ k l. rw (lt-ltb (getD ys k 0) f (omega (arith, on-edge .on k l))) refl)
+      (λ k l m. absurd (omega arith)))
+
+  pub all-from-second : q < s → length ys ≡ reached q f s false t x ys
+  unfolding reached isReached
+  all-from-second h =
+      sym (count-before _ ys (length ys) (omega arith)
+      (λ k l. rw (lt-ltb (q - getD ys k 0) s (omega arith)) (second-holds (ltb (getD ys k 0) f) _))
+      (λ k l m. absurd (omega arith)))
 
 module _ (q : ℕ) (ys : List ℕ) (rising : Rising ys) (on-edge : OnEdge q ys) (f s t x : ℕ) where
   -- the first and the last places
