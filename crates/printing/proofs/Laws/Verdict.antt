@@ -69,7 +69,7 @@ module _ (comparisons : Bool) (ts observed lower upper out : List ℕ) where
       differs-upper h = simp (eq-eqb (length ts) (length observed) o, eq-eqb (length ts) (length lower) l, ne-eqb (length ts) (length upper) h)
 
       -- of lists that belong together the room decides
-      room-decides : length ts ≡ length upper → tableBytesCheck comparisons ts observed lower upper out ≡ roomCheck (length (tableBytes comparisons ts observed lower upper)) out
+      pub room-decides : length ts ≡ length upper → tableBytesCheck comparisons ts observed lower upper out ≡ roomCheck (length (tableBytes comparisons ts observed lower upper)) out
       unfolding tableBytesCheck orElse sameLength unless
       room-decides u = simp (eq-eqb (length ts) (length observed) o, eq-eqb (length ts) (length lower) l, eq-eqb (length ts) (length upper) u)
 

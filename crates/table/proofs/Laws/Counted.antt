@@ -15,7 +15,7 @@ use Rattle.prepare.proofs.Laws.Laying.{map-length}
 use Rattle.table.specs.Columns.{columnFrom, columns}
 
 -- what a function makes of the element at a place
-map-at : (f : ℕ → ℕ) (l : List ℕ) (k : ℕ) → k < length l → getD (map f l) k 0 ≡ f (getD l k 0)
+pub map-at : (f : ℕ → ℕ) (l : List ℕ) (k : ℕ) → k < length l → getD (map f l) k 0 ≡ f (getD l k 0)
 map-at f [] k h = absurd (omega arith)
 map-at f (x ∷ l) zero h = refl
 map-at f (x ∷ l) (suc k) h = map-at f l k (omega arith)

@@ -1,0 +1,7 @@
+-- One file to a concept.
+pub mod Columns
+pub mod Table
+pub mod Lines
+pub mod Files
+pub mod Texts
+pub mod Room

@@ -1,0 +1,2 @@
+-- Facts about the printed report.
+pub mod Laws

@@ -1,0 +1,3 @@
+-- The printed report.
+pub mod Report
+pub mod Parts

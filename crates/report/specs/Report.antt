@@ -1,0 +1,85 @@
+-- What is printed for three texts: the line of the first that is refused, otherwise the table.
+use mathlib.Core.List.{List, [], _∷_, _++_, map}
+use mathlib.Core.Path.{_≡_}
+use Prim.Native.Nat.{ℕ, _≤_}
+use lib.ListN.{length}
+use Rattle.model.specs.Answer.{written}
+use Rattle.model.specs.Checks.{equalSetsCheck, roomCheck}
+use Rattle.model.specs.Envelope.{Envelope, observed, envelope}
+use Rattle.model.specs.Events.{Event, events}
+use Rattle.model.specs.Network.{Network}
+use Rattle.model.specs.Refusal.{orElse}
+use Rattle.model.specs.declared.check.Check.{Check}
+use Rattle.model.specs.declared.check.Check.the-variants.{Accepted, Refused}
+use Rattle.printing.specs.Answers.{printedAnswer}
+use Rattle.printing.specs.Bytes.{header, lineEnd, row, refusalLine}
+use Rattle.printing.specs.declared.answers.Printed.{Printed}
+use Rattle.printing.specs.declared.answers.Printed.the-variants as printed
+use Rattle.readers.specs.Answers.{checkOf, textNetwork, textRows, textThresholds}
+use Rattle.text.specs.EventText.{Row, eventLines}
+use Rattle.text.specs.Lines.{feedLines, csvLines}
+use Rattle.text.specs.NetworkText.{networkLines}
+use Rattle.text.specs.Reading.{lengthCheck}
+use Rattle.text.specs.ThresholdText.{thresholdLines}
+
+-- the bytes of `network.gr`, `reports.csv` and `thresholds.csv`
+abbrev pub networkName : List ℕ
+networkName = 110 ∷ 101 ∷ 116 ∷ 119 ∷ 111 ∷ 114 ∷ 107 ∷ 46 ∷ 103 ∷ 114 ∷ []
+
+abbrev pub reportsName : List ℕ
+reportsName = 114 ∷ 101 ∷ 112 ∷ 111 ∷ 114 ∷ 116 ∷ 115 ∷ 46 ∷ 99 ∷ 115 ∷ 118 ∷ []
+
+abbrev pub thresholdsName : List ℕ
+thresholdsName = 116 ∷ 104 ∷ 114 ∷ 101 ∷ 115 ∷ 104 ∷ 111 ∷ 108 ∷ 100 ∷ 115 ∷ 46 ∷ 99 ∷ 115 ∷ 118 ∷ []
+
+-- 1, then the first bad line or what is missing at the end; of reports last 16
+unfoldable pub networkFileCheck : List ℕ → Check
+networkFileCheck bytes = orElse (lengthCheck bytes) (checkOf (networkLines (feedLines bytes)))
+
+unfoldable pub reportsFileCheck : Network → List ℕ → Check
+reportsFileCheck net bytes =
+    orElse (lengthCheck bytes)
+    (orElse (checkOf (eventLines net (csvLines bytes))) (equalSetsCheck (map (λ r. r .set) (textRows net bytes))))
+
+unfoldable pub thresholdsFileCheck : List ℕ → Check
+thresholdsFileCheck bytes = orElse (lengthCheck bytes) (checkOf (thresholdLines (csvLines bytes)))
+
+-- the line of a file that is refused, otherwise what comes next
+unfoldable pub lineOr : Check → List ℕ → List ℕ → List ℕ
+lineOr Accepted file more = more
+lineOr (Refused number place) file more = refusalLine file number place
+
+-- a row for each threshold, under the line of names
+unfoldable pub tableRows : (ℕ → ℕ) → (ℕ → Envelope) → List ℕ → List ℕ
+tableRows count span [] = []
+tableRows count span (t ∷ ts) = row t (count t) (span t) ++ tableRows count span ts
+
+unfoldable pub countsTable : Network → List ℕ → List Event → List ℕ → List ℕ
+countsTable net sets es ts = header ++ (lineEnd ++ tableRows (observed net sets es) (envelope net sets es) ts)
+
+-- over a network and rows that were accepted: the thresholds, then the table
+unfoldable pub bytesOverRows : Network → List Row → List ℕ → List ℕ
+bytesOverRows net all thresholds =
+    lineOr (thresholdsFileCheck thresholds) thresholdsName
+    (countsTable net (map (λ r. r .set) all) (events (map (λ r. r .edge) all) (map (λ r. r .offset) all)) (textThresholds thresholds))
+
+-- over a network that was accepted: the reports, and so on
+unfoldable pub bytesOverNetwork : Network → List ℕ → List ℕ → List ℕ
+bytesOverNetwork net reports thresholds = lineOr (reportsFileCheck net reports) reportsName (bytesOverRows net (textRows net reports) thresholds)
+
+unfoldable pub reportBytes : List ℕ → List ℕ → List ℕ → List ℕ
+reportBytes network reports thresholds = lineOr (networkFileCheck network) networkName (bytesOverNetwork (textNetwork network) reports thresholds)
+
+-- room that always suffices: the line of names, and 64 rows of at most four numbers of 20 digits
+abbrev pub reportRoom : ℕ
+reportRoom = 5475
+
+-- these bytes are printed, if there is room for them: 2 otherwise
+pub record BytesPrinted (bytes out : List ℕ) (r : Printed) (out′ : List ℕ) : Type 0 where
+  pub answer : r ≡ printedAnswer (roomCheck (length bytes) out) (length bytes)
+  pub after : out′ ≡ written (roomCheck (length bytes) out) bytes out
+
+-- the promise of the report
+pub record ReportPrinted (network reports thresholds out : List ℕ) (r : Printed) (out′ : List ℕ) : Type 0 where
+  pub bytes-are : BytesPrinted (reportBytes network reports thresholds) out r out′
+  pub never-refused : reportRoom ≤ length out → r ≡ printed.Bytes (length (reportBytes network reports thresholds))
