@@ -61,14 +61,18 @@ report-short network reports thresholds =
     (line-short _ reportsName _ (omega arith)
     (line-short _ thresholdsName _ (omega arith) (table-short _ _ _ (textThresholds thresholds) (few thresholds))))
 
+-- so with so much room it always fits
+pub report-fits : (network reports thresholds out : List ℕ) → reportRoom ≤ length out → roomCheck (length (reportBytes network reports thresholds)) out ≡ Accepted
+report-fits network reports thresholds out enough =
+    let fits : length (reportBytes network reports thresholds) ≤ length out = omega (arith, report-short network reports thresholds) in
+    room-accepted _ out (le-leb (length (reportBytes network reports thresholds)) (length out) fits)
+
 -- the promise, with the room told
 pub report-printed : (network reports thresholds : List ℕ) {out : List ℕ} {r : Printed} {out′ : List ℕ} → BytesPrinted (reportBytes network reports thresholds) out r out′ → ReportPrinted network reports thresholds out r out′
 report-printed network reports thresholds {out} {r} p =
     record {
       bytes-are = p;
-      never-refused = λ enough.
-          let fits : length (reportBytes network reports thresholds) ≤ length out = omega (arith, report-short network reports thresholds) in
-          p .answer ∙ bytes (room-accepted _ out (le-leb (length (reportBytes network reports thresholds)) (length out) fits));
+      never-refused = λ enough. p .answer ∙ bytes (report-fits network reports thresholds out enough);
     }
   where
     bytes : {check : Check} {n : ℕ} → check ≡ Accepted → printedAnswer check n ≡ printed.Bytes n

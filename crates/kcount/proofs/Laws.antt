@@ -1,0 +1,2 @@
+-- One file to a concept.
+pub mod Held

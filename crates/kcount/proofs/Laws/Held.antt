@@ -1,0 +1,26 @@
+-- With room enough the answer is a number of bytes, and they are the report's.
+use mathlib.Core.List.{List, _++_}
+use mathlib.Core.Path.{_≡_, refl, sym, ap, _∙_}
+use Prim.Native.Nat.{ℕ, _≤_}
+use native.Mathlib.Omega.{arith}
+use lib.ListN.{length, take}
+use Rattle.model.specs.Checks.{roomCheck}
+use Rattle.model.specs.declared.check.Check.the-variants.{Accepted}
+use Rattle.printing.specs.declared.answers.Printed.{Printed}
+use Rattle.printing.specs.declared.answers.Printed.the-variants.{Bytes, Refused}
+use Rattle.report.specs.Report.{ReportPrinted, reportBytes, reportRoom}
+use Rattle.report.proofs.Laws.Room.{report-fits, report-short}
+use Rattle.report.proofs.Laws.Table.{front-of}
+use Rattle.kcount.specs.Held.{Held}
+
+module _ {network reports thresholds out : List ℕ} {r : Printed} {out′ : List ℕ} (p : ReportPrinted network reports thresholds out r out′) (room : reportRoom ≤ length out) where
+  pub bytes-held : {count : ℕ} → length out′ ≡ length out → r ≡ Bytes count → Held network reports thresholds count out′
+  bytes-held {count} kept e =
+      let is : count ≡ length (reportBytes network reports thresholds) = cc (sym e ∙ p .never-refused room) in
+      record {
+        within = omega (arith, report-short network reports thresholds);
+        bytes = front-of (reportBytes network reports thresholds) out out′ (sym is) (p .bytes-are .after) (report-fits network reports thresholds out room);
+      }
+
+  pub never : {G : Type 0} {number place : ℕ} → r ≡ Refused number place → G
+  never e = absurd (let z : _≡_ {A = ℕ} 0 1 = cc (sym e ∙ p .never-refused room) in omega arith)

@@ -1,0 +1,2 @@
+-- What the program holds before it writes.
+pub mod Held
