@@ -1,11 +1,9 @@
 -- With room enough the answer is a number of bytes, and they are the report's.
-use mathlib.Core.List.{List, _++_}
-use mathlib.Core.Path.{_≡_, refl, sym, ap, _∙_}
+use mathlib.Core.List.{List}
+use mathlib.Core.Path.{_≡_, sym, _∙_}
 use Prim.Native.Nat.{ℕ, _≤_}
 use native.Mathlib.Omega.{arith}
-use lib.ListN.{length, take}
-use Rattle.model.specs.Checks.{roomCheck}
-use Rattle.model.specs.declared.check.Check.the-variants.{Accepted}
+use lib.ListN.{length}
 use Rattle.printing.specs.declared.answers.Printed.{Printed}
 use Rattle.printing.specs.declared.answers.Printed.the-variants.{Bytes, Refused}
 use Rattle.report.specs.Report.{ReportPrinted, reportBytes, reportRoom}

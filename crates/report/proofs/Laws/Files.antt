@@ -1,20 +1,20 @@
 -- In lists that have room for every text the readers never refuse for want of room: their checks are those of the files.
-use mathlib.Core.List.{List, map}
-use mathlib.Core.Path.{_≡_, refl, sym, ap, _∙_}
+use mathlib.Core.List.{List}
+use mathlib.Core.Path.{_≡_, refl, ap, _∙_}
 use Prim.Native.Nat.{ℕ, _≤_}
 use native.Mathlib.Omega.{arith}
 use borrow.Author.Tests.{le-leb}
 use lib.ListN.{length}
-use Rattle.model.specs.Checks.{networkCheck, equalSetsCheck, roomCheck}
+use Rattle.model.specs.Checks.{networkCheck, roomCheck}
 use Rattle.model.specs.Limits.{maxEdges, maxEvents, maxThresholds}
-use Rattle.model.specs.Network.{Network, edges}
+use Rattle.model.specs.Network.{Network}
 use Rattle.model.specs.Refusal.{orElse}
 use Rattle.model.specs.declared.check.Check.{Check}
 use Rattle.model.specs.declared.check.Check.the-variants.{Accepted, Refused}
 use Rattle.model.proofs.Laws.Checks as model
 use Rattle.model.proofs.Laws.Refusal.{both-accept, or-else-next}
 use Rattle.printing.proofs.Laws.Verdict.{room-accepted}
-use Rattle.readers.specs.Answers.{checkOf, networkIn, textNetwork, textRows, textThresholds, networkTextCheck, eventTextCheck, thresholdTextCheck}
+use Rattle.readers.specs.Answers.{checkOf, textNetwork, textRows, textThresholds, networkTextCheck, eventTextCheck, thresholdTextCheck}
 use Rattle.readers.specs.Parallel.{Level}
 use Rattle.readers.proofs.Laws.Answers.{list-read}
 use Rattle.readers.proofs.Laws.Events.{read-good}

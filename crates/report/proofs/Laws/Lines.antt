@@ -1,13 +1,12 @@
 -- The line of a refused file, or what comes next; and what an answer says of the check behind it.
 use mathlib.Core.List.{List}
-use mathlib.Core.Path.{_≡_, refl, sym, ap, _∙_}
+use mathlib.Core.Path.{_≡_}
 use Prim.Native.Nat.{ℕ}
 use native.Mathlib.Omega.{arith}
 use Rattle.model.specs.Network.{Network}
 use Rattle.model.specs.declared.check.Check.{Check}
 use Rattle.model.specs.declared.check.Check.the-variants.{Accepted, Refused}
 use Rattle.printing.specs.Answers.{RefusalPrinted}
-use Rattle.printing.specs.Bytes.{refusalLine}
 use Rattle.printing.specs.declared.answers.Printed.{Printed}
 use Rattle.readers.specs.Answers.{listAnswer, networkAnswer}
 use Rattle.readers.specs.declared.answers.ReadList.the-variants as list-answer

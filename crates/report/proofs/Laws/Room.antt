@@ -1,7 +1,7 @@
 -- How much room a report may take.
-use mathlib.Core.List.{List, [], _∷_, _++_}
-use mathlib.Core.Path.{_≡_, refl, sym, ap, _∙_}
-use Prim.Native.Nat.{ℕ, suc, _+_, _*_, _≤_}
+use mathlib.Core.List.{List, [], _∷_}
+use mathlib.Core.Path.{_≡_, refl, _∙_}
+use Prim.Native.Nat.{ℕ, _*_, _≤_}
 use native.Mathlib.Omega.{arith}
 use borrow.Author.Tests.{le-leb}
 use lib.ListN.{length, length-append}
@@ -13,13 +13,13 @@ use Rattle.model.specs.Network.{Network}
 use Rattle.model.specs.declared.check.Check.{Check}
 use Rattle.model.specs.declared.check.Check.the-variants.{Accepted, Refused}
 use Rattle.printing.specs.Answers.{printedAnswer}
-use Rattle.printing.specs.Bytes.{comma, header, lineEnd, digits, row, span, refusalLine}
+use Rattle.printing.specs.Bytes.{row}
 use Rattle.printing.specs.declared.answers.Printed.{Printed}
 use Rattle.printing.specs.declared.answers.Printed.the-variants as printed
 use Rattle.printing.proofs.Laws.Digits.{digits-few}
 use Rattle.printing.proofs.Laws.Sizes.{span-few, row-length, refusal-length}
 use Rattle.printing.proofs.Laws.Verdict.{room-accepted}
-use Rattle.readers.specs.Answers.{listIn, textNetwork, textRows, textThresholds}
+use Rattle.readers.specs.Answers.{listIn, textThresholds}
 use Rattle.readers.proofs.Laws.Thresholds.{read-rising}
 use Rattle.text.specs.Lines.{csvLines}
 use Rattle.text.specs.Reading.{Outcome, read, refusedAt}

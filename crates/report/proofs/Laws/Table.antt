@@ -1,8 +1,8 @@
 -- The table over lists that pass every check, and its printed bytes.
 use mathlib.Core.Bool.{Bool, true, false}
-use mathlib.Core.List.{List, [], _∷_, map}
+use mathlib.Core.List.{List, map}
 use mathlib.Core.Path.{_≡_, refl, sym, ap, _∙_}
-use Prim.Native.Nat.{ℕ, zero, suc, _-_, _≤_, _<_}
+use Prim.Native.Nat.{ℕ, zero, suc, _-_, _≤_}
 use native.Mathlib.Omega.{arith}
 use borrow.Author.Tests.{le-leb}
 use lib.ListN.{length, take, length-map}
@@ -17,7 +17,7 @@ use Rattle.model.specs.declared.check.Check.{Check}
 use Rattle.model.specs.declared.check.Check.the-variants as check
 use Rattle.model.proofs.Laws.Checks.{thresholds-accepted}
 use Rattle.model.proofs.Laws.Refusal.{both-accept}
-use Rattle.printing.specs.Answers.{TablePrinted, tableBytes, tableBytesCheck, printedAnswer}
+use Rattle.printing.specs.Answers.{TablePrinted, tableBytes}
 use Rattle.printing.specs.declared.answers.Printed.{Printed}
 use Rattle.printing.proofs.Laws.Verdict.{room-accepted, room-decides}
 use Rattle.readers.proofs.Laws.Answers.{front-is}

@@ -1,15 +1,14 @@
 -- What was read of each text, as the functions behind it take it.
 use mathlib.Core.List.{List, map}
-use mathlib.Core.Path.{_≡_, refl, sym, ap, subst, _∙_}
+use mathlib.Core.Path.{_≡_, refl, sym, subst, _∙_}
 use Prim.Native.Nat.{ℕ, _≤_}
 use native.Mathlib.Omega.{arith}
 use lib.ListN.{length, take, length-map}
 use Rattle.model.specs.Answer.{written}
-use Rattle.model.specs.Checks.{networkCheck, setsOverNetworkCheck, thresholdsCheck}
+use Rattle.model.specs.Checks.{setsOverNetworkCheck, thresholdsCheck}
 use Rattle.model.specs.Events.{Event, events}
 use Rattle.model.specs.Limits.{maxEdges, maxEvents, maxThresholds}
 use Rattle.model.specs.Network.{Network, network, edges}
-use Rattle.model.specs.declared.check.Check.{Check}
 use Rattle.model.specs.declared.check.Check.the-variants as check
 use Rattle.model.proofs.Laws.Checks as model
 use Rattle.readers.specs.Answers.{NetworkRead, EventsRead, ThresholdsRead, textNetwork, textRows, textThresholds, networkTextCheck, eventTextCheck, thresholdTextCheck}
@@ -18,7 +17,7 @@ use Rattle.readers.specs.declared.answers.ReadList.{ReadList}
 use Rattle.readers.specs.declared.answers.ReadList.the-variants as list-answer
 use Rattle.readers.specs.declared.answers.ReadNetwork.{ReadNetwork}
 use Rattle.readers.specs.declared.answers.ReadNetwork.the-variants as network-answer
-use Rattle.readers.proofs.Laws.Answers.{front-is, list-accepted, network-accepted}
+use Rattle.readers.proofs.Laws.Answers.{list-accepted, network-accepted}
 use Rattle.readers.proofs.Laws.Events.{events-pass}
 use Rattle.readers.proofs.Laws.Network.{network-passes}
 use Rattle.readers.proofs.Laws.Thresholds.{thresholds-pass}

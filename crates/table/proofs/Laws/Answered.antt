@@ -1,7 +1,7 @@
 -- The promise of the table, from the checks, the counts and the columns.
 use mathlib.Core.List.{List, _++_, map}
 use mathlib.Core.Path.{_≡_, refl, sym, ap, _∙_}
-use Prim.Native.Nat.{ℕ, suc, _+_, _*_, _≤_, _<_}
+use Prim.Native.Nat.{ℕ, suc, _*_, _≤_}
 use native.Mathlib.Nat.{mul-le-mul}
 use native.Mathlib.Omega.{arith}
 use borrow.Author.Tests.{le-leb, leb-true}
@@ -17,13 +17,13 @@ use Rattle.model.specs.Refusal.{listsDiffer}
 use Rattle.model.specs.declared.check.Check.{Check}
 use Rattle.model.specs.declared.check.Check.the-variants as check
 use Rattle.model.proofs.Laws.Answer.{written-refused}
-use Rattle.model.proofs.Laws.Checks.{SetsAccepted, ThresholdsAccepted, sets-accepted, thresholds-accepted}
+use Rattle.model.proofs.Laws.Checks.{sets-accepted, thresholds-accepted}
 use Rattle.model.proofs.Laws.Refusal.{both-accepted, both-accept, unless-accepted}
 use Rattle.prepare.specs.Counts.{CountsAnswered, countsCheck, countTable}
 use Rattle.prepare.proofs.Laws.Verdict.{with-room}
 use Rattle.validate.proofs.SetSizes.{greatest-small}
-use Rattle.table.specs.Columns.{RowsThere, ColumnsFilled, ColumnsFit, columns}
-use Rattle.table.specs.Table.{TableAnswered, leasts, greatests, tableAnswer, tableCheck}
+use Rattle.table.specs.Columns.{ColumnsFilled, ColumnsFit, columns}
+use Rattle.table.specs.Table.{TableAnswered, tableAnswer, tableCheck}
 use Rattle.table.specs.declared.answers.Table.{Table}
 use Rattle.table.specs.declared.answers.Table.the-variants.{Refused}
 use Rattle.table.proofs.Laws.Counted.{observed-row, columns-are}

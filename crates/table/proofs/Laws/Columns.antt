@@ -1,18 +1,17 @@
 -- The columns put in front of what the answer lists held.
 use mathlib.Core.List.{List, [], _∷_, _++_, map}
-use mathlib.Core.Path.{_≡_, refl, sym, ap, _∙_}
-use Prim.Native.Nat.{ℕ, zero, suc, _+_, _*_, _≤_, _<_}
+use mathlib.Core.Path.{_≡_, refl, ap, _∙_}
+use Prim.Native.Nat.{ℕ, zero, suc, _≤_}
 use native.Mathlib.Nat.{suc-mul}
 use native.Mathlib.Omega.{arith}
-use lib.ListN.{length, getD, take, drop}
+use lib.ListN.{length, take, drop}
 use lib.Seq.{length-take-le}
 use Rattle.model.specs.Answer.{written}
 use Rattle.model.specs.Counting.{numbersFrom}
-use Rattle.model.specs.Envelope.{Envelope, no-value, between, envelopeOf}
+use Rattle.model.specs.Envelope.{Envelope, no-value, envelopeOf}
 use Rattle.model.specs.declared.check.Check.the-variants as check
 use Rattle.table.specs.Columns.{RowsThere, ColumnsFilled, ColumnsFit, columnFrom, columns}
 use Rattle.table.specs.Table.{ends, leasts, greatests, tableAnswer}
-use Rattle.table.specs.declared.answers.Table.{Table}
 use Rattle.table.specs.declared.answers.Table.the-variants.{Observed, Compared}
 
 -- the first row is there

@@ -1,13 +1,13 @@
 -- The columns of the table of counts: the observed counts and the envelopes.
 use mathlib.Core.List.{List, [], _∷_, _++_, map, append-assoc}
-use mathlib.Core.Path.{_≡_, refl, sym, ap, ap₂, _∙_}
+use mathlib.Core.Path.{_≡_, refl, ap, ap₂, _∙_}
 use Prim.Native.Nat.{ℕ, zero, suc, _+_, _*_, _≤_, _<_}
-use native.Mathlib.Nat.{suc-mul, zero-mul}
+use native.Mathlib.Nat.{suc-mul}
 use native.Mathlib.Omega.{arith}
 use lib.ListN.{length, getD, take, List·getD-append}
 use lib.Seq.{take-at, getD-append-add}
 use Rattle.model.specs.Counting.{numbersFrom}
-use Rattle.model.specs.Envelope.{Envelope, envelopeOf, countOfSet, observed, envelope}
+use Rattle.model.specs.Envelope.{envelopeOf, countOfSet, observed, envelope}
 use Rattle.model.specs.Events.{Event, greatestSet, setCount}
 use Rattle.model.specs.Network.{Network}
 use Rattle.prepare.specs.Counts.{countRow, countRows, countTable}

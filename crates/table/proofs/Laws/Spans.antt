@@ -1,14 +1,14 @@
 -- Least and greatest of one column, taken in from the last row on; then of every column, stored place by place.
-use mathlib.Core.List.{List, [], _∷_, _++_, map}
-use mathlib.Core.Path.{_≡_, refl, sym, ap, _∙_}
-use Prim.Native.Nat.{ℕ, zero, suc, _+_, _-_, _*_, _≤_, _<_}
+use mathlib.Core.List.{List, _∷_, _++_, map}
+use mathlib.Core.Path.{_≡_, refl, ap, _∙_}
+use Prim.Native.Nat.{ℕ, suc, _+_, _-_, _*_, _≤_, _<_}
 use native.Mathlib.Nat.{mul-le-mul-right}
 use native.Mathlib.Numerals.{add-one, unary-clauses}
 use native.Mathlib.Omega.{arith}
 use lib.ListN.{length, getD, set, take, length-set}
 use Rattle.layout.proofs.Laws.Filling.{one-more, all-filled}
 use Rattle.model.specs.Counting.{numbersFrom}
-use Rattle.model.specs.Envelope.{Envelope, no-value, between, widen, envelopeOf}
+use Rattle.model.specs.Envelope.{Envelope, between, widen, envelopeOf}
 use Rattle.table.specs.Columns.{ColumnThere, columnFrom, columns}
 use Rattle.table.specs.Table.{ends}
 

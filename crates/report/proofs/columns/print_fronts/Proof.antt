@@ -1,6 +1,5 @@
 -- Each front is as long as the list of thresholds.
 use mathlib.Core.Path.{sym}
-use native.Mathlib.Omega.{arith}
 use lib.Seq.{length-take-le}
 use borrow.Author.Needs.{needs}
 use Rattle.report.proofs.columns.print_fronts.Statement.{statement}

@@ -1,6 +1,5 @@
 -- As many bytes as were printed are a front of the list.
 use mathlib.Core.Path.{sym}
-use native.Mathlib.Omega.{arith}
 use lib.Seq.{length-take-le}
 use borrow.Author.Needs.{needs}
 use Rattle.run_report.proofs.show.printed.Statement.{statement}

@@ -1,7 +1,6 @@
 -- Both ends of the envelopes of the columns so far are stored.
 use Prim.Native.Nat.{_-_}
 use native.Mathlib.Omega.{arith}
-use borrow.Author.Needs.{needs}
 use Rattle.table.specs.Table.{leasts, greatests}
 use Rattle.table.proofs.Laws.Spans.{Stored, stored-none, stored-more, stored-all}
 use Rattle.table.proofs.spans.fill_spans.Statement.{statement}
