@@ -40,6 +40,15 @@ uint32_t kc_perimeter_count(uint32_t nodes, const uint32_t *firsts, size_t first
                             size_t seconds_len, const uint32_t *lengths, size_t lengths_len, uint32_t leg,
                             uint32_t offset, uint32_t radius, uint32_t *number, size_t *place);
 
+/* Pair counts of every set at every threshold, by a range query: for each set in turn a count for each threshold in turn.
+   answers must hold the number of sets (one more than the greatest set number, one with no reports) times the number of
+   thresholds. */
+void kc_range_counts(uint32_t nodes, const uint32_t *firsts, size_t firsts_len, const uint32_t *seconds,
+                     size_t seconds_len, const uint32_t *lengths, size_t lengths_len, const uint32_t *sets,
+                     size_t sets_len, const uint32_t *legs, size_t legs_len, const uint32_t *offsets,
+                     size_t offsets_len, const uint32_t *thresholds, size_t thresholds_len, uint32_t *answers,
+                     size_t answers_len, uint32_t *number, size_t *place);
+
 /* Readers of the three texts: how many legs, reports or thresholds were read. */
 size_t kc_read_network(const uint8_t *text, size_t text_len, uint32_t *firsts, size_t firsts_len, uint32_t *seconds,
                        size_t seconds_len, uint32_t *lengths, size_t lengths_len, uint32_t *nodes, uint32_t *number,

@@ -22,6 +22,7 @@ use Rattle.model.specs.Checks.{layoutCheck}
 use Rattle.model.specs.Network.{Network}
 use Rattle.layout.specs.Layout.{LaidOut}
 use Rattle.distance.specs.Answers.{rowCheck, RowAnswered, tableCheck, TableAnswered}
+use Rattle.prepare.specs.Counts.{countsCheck, CountsAnswered}
 use Rattle.readers.specs.Answers.{listAnswer, thresholdTextCheck, textThresholds, ThresholdsRead, eventTextCheck, textRows, EventsRead, networkAnswer, networkTextCheck, textNetwork, NetworkRead}
 
 -- nothing is refused
@@ -97,6 +98,10 @@ row-answered {net} {source} {bound} {old} {new} {r} {n} {p} row told = (subst (�
 -- a table answered, and its verdict told
 pub table-answered : {net : Network} {bound : ℕ} {wanted old new : List ℕ} {r : Check} {n p : ℕ} → TableAnswered net bound wanted old r new → Told r n p → Told (tableCheck net wanted old) n p × TableAnswered net bound wanted old (tableCheck net wanted old) new
 table-answered {net} {bound} {wanted} {old} {new} {r} {n} {p} table told = (subst (λ v. Told v n p) (table .verdict) told, subst (λ v. TableAnswered net bound wanted old v new) (table .verdict) table)
+
+-- counts answered, and their verdict told
+pub counts-answered : {net : Network} {sets es xs ts old new : List ℕ} {r : Check} {n p : ℕ} → CountsAnswered net sets es xs ts old r new → Told r n p → Told (countsCheck net sets es xs ts (length old)) n p × CountsAnswered net sets es xs ts old (countsCheck net sets es xs ts (length old)) new
+counts-answered {net} {sets} {es} {xs} {ts} {old} {new} {r} {n} {p} counts told = (subst (λ v. Told v n p) (counts .verdict) told, subst (λ v. CountsAnswered net sets es xs ts old v new) (counts .verdict) counts)
 
 -- thresholds read, and the answer told
 pub thresholds-read : {bytes old new : List ℕ} {a : ReadList} {r n p : ℕ} → ThresholdsRead bytes old a new → ToldWith (listVerdict a) (readOf a) r n p → ToldWith (listVerdict (listAnswer (thresholdTextCheck bytes old) (length (textThresholds bytes)))) (readOf (listAnswer (thresholdTextCheck bytes old) (length (textThresholds bytes)))) r n p × ThresholdsRead bytes old (listAnswer (thresholdTextCheck bytes old) (length (textThresholds bytes))) new
