@@ -6,7 +6,7 @@
 //! threshold.
 
 use crate::distance::{location_distance, Location, NodeTable};
-use crate::lists::Refusal;
+use crate::lists::{Refusal, MAX_THRESHOLDS};
 use crate::model::{LaidOut, Network, Sets, Thresholds};
 
 /// `counts[set][threshold]`.
@@ -46,20 +46,44 @@ pub fn naive(network: &Network, table: &NodeTable, sets: &Sets, thresholds: &Thr
     Ok(answer)
 }
 
-/// (a) Range query. Each pair's distance is found once and counted at the
-/// first threshold that admits it; prefix sums give the rest.
+/// (a) Range query. Each unordered pair's distance is found once and counted
+/// at the first threshold that admits it; prefix sums give the rest.
 pub fn range_query(network: &Network, table: &NodeTable, sets: &Sets, thresholds: &Thresholds) -> Counts {
-    sets.all().iter().map(|set| range_query_set(network, table, set, thresholds)).collect()
+    let steps = Steps::new(thresholds.values());
+    let count = thresholds.values().len();
+    sets.all().iter().map(|set| range_query_set(network, table, set, &steps, count)).collect()
 }
 
-fn range_query_set(network: &Network, table: &NodeTable, set: &LaidOut, thresholds: &Thresholds) -> Vec<u64> {
-    let values = thresholds.values();
-    // First admitted at threshold k; the last cell is for none.
-    let mut first_at = vec![0u64; values.len() + 1];
-    let mut admit = |distance: i64| {
-        let k = values.partition_point(|&threshold| i64::from(threshold) < distance);
-        first_at[k] += 2;
-    };
+/// The thresholds spread over as many steps as there may be thresholds, the
+/// greatest repeated behind itself: a search takes the same halvings for every
+/// distance, with no branch.
+struct Steps([u32; MAX_THRESHOLDS]);
+
+impl Steps {
+    fn new(values: &[u32]) -> Steps {
+        let greatest = values.last().copied().unwrap_or(0);
+        let mut steps = [greatest; MAX_THRESHOLDS];
+        for (step, &value) in steps.iter_mut().zip(values) {
+            *step = value;
+        }
+        Steps(steps)
+    }
+
+    /// How many steps do not admit the distance.
+    #[inline]
+    fn below(&self, distance: i64) -> usize {
+        let mut passed = 0;
+        for half in [32, 16, 8, 4, 2, 1, 1] {
+            passed += half * usize::from(i64::from(self.0[passed + half - 1]) < distance);
+        }
+        passed
+    }
+}
+
+fn range_query_set(network: &Network, table: &NodeTable, set: &LaidOut, steps: &Steps, count: usize) -> Vec<u64> {
+    // First admitted at step k; the last cell is for none.
+    let mut first_at = [0u32; MAX_THRESHOLDS + 1];
+    let mut admit = |distance: i64| first_at[steps.below(distance)] += 1;
     for (rank, &one) in set.occupied().iter().enumerate() {
         let one_gaps = set.first_gaps(one);
         let one_length = length_of(network, one);
@@ -91,12 +115,13 @@ fn range_query_set(network: &Network, table: &NodeTable, set: &LaidOut, threshol
             }
         }
     }
+    // Each pair counts from both its reports.
     let mut sum = 0;
-    first_at[..values.len()]
+    first_at[..count]
         .iter()
         .map(|&here| {
-            sum += here;
-            sum
+            sum += u64::from(here);
+            2 * sum
         })
         .collect()
 }
@@ -161,8 +186,10 @@ impl StoredLeg<'_> {
     }
 }
 
-/// (b) Count augmentation. For each report, leg and threshold, two looked-up
-/// numbers (four on the report's own leg) with the overlap taken off.
+/// (b) Count augmentation. For each unordered pair of legs and each threshold,
+/// unless no end of the one is in reach of an end of the other: for each report
+/// of the first leg two looked-up numbers (four on one leg) with the overlap
+/// taken off.
 pub fn count_augmentation(network: &Network, table: &NodeTable, sets: &Sets, thresholds: &Thresholds) -> Counts {
     sets.all().iter().map(|set| count_augmentation_set(network, table, set, thresholds)).collect()
 }
@@ -170,14 +197,15 @@ pub fn count_augmentation(network: &Network, table: &NodeTable, sets: &Sets, thr
 fn count_augmentation_set(network: &Network, table: &NodeTable, set: &LaidOut, thresholds: &Thresholds) -> Vec<u64> {
     let stored = augment(set);
     let mut row = vec![0u64; thresholds.values().len()];
-    for &one in set.occupied() {
+    for (rank, &one) in set.occupied().iter().enumerate() {
         let one_length = length_of(network, one);
-        for &two in set.occupied() {
+        for &two in &set.occupied()[rank..] {
             let ends = table.leg_ends(network, one, two);
             if ends == [None; 4] {
                 continue;
             }
             let [au, av, bu, bv] = ends.map(walk);
+            let nearest = au.min(av).min(bu).min(bv);
             let range = set.range(two);
             let leg = StoredLeg {
                 offsets: &set.offsets()[range.clone()],
@@ -186,15 +214,19 @@ fn count_augmentation_set(network: &Network, table: &NodeTable, set: &LaidOut, t
                 length: length_of(network, two),
             };
             let all = leg.offsets.len() as u32;
-            for &x in set.first_gaps(one) {
-                let x = i64::from(x);
-                let to_u = (x + au).min(one_length - x + bu);
-                let to_v = (x + av).min(one_length - x + bv);
-                for (cell, &threshold) in row.iter_mut().zip(thresholds.values()) {
-                    let threshold = i64::from(threshold);
+            for (cell, &threshold) in row.iter_mut().zip(thresholds.values()) {
+                let threshold = i64::from(threshold);
+                if one != two && nearest > threshold {
+                    continue;
+                }
+                let mut count = 0;
+                for &x in set.first_gaps(one) {
+                    let x = i64::from(x);
+                    let to_u = (x + au).min(one_length - x + bu);
+                    let to_v = (x + av).min(one_length - x + bv);
                     let by_u = leg.up_to(threshold - to_u);
                     let by_v = leg.from(leg.length - (threshold - to_v));
-                    *cell += u64::from(if one == two {
+                    count += u64::from(if one == two {
                         let below = all - leg.from(x - threshold);
                         let not_above = leg.up_to(x + threshold);
                         joined(all, by_u, by_v, below, not_above) - 1
@@ -202,6 +234,8 @@ fn count_augmentation_set(network: &Network, table: &NodeTable, set: &LaidOut, t
                         all.min(by_u + by_v)
                     });
                 }
+                // Two legs count once from either.
+                *cell += if one == two { count } else { 2 * count };
             }
         }
     }
@@ -371,14 +405,15 @@ pub fn sweep(
     Ok(Sweep { routes, window, reached })
 }
 
-/// (c) Neighbour sharing. For each ordered pair of legs and each threshold,
-/// one sweep.
+/// (c) Neighbour sharing. For each unordered pair of legs and each threshold,
+/// unless no end of the one is in reach of an end of the other, one sweep over
+/// the first leg's reports.
 pub fn neighbour_sharing(network: &Network, table: &NodeTable, sets: &Sets, thresholds: &Thresholds) -> Counts {
     sets.all().iter().map(|set| neighbour_sharing_set(network, table, set, thresholds).0).collect()
 }
 
-/// As `neighbour_sharing`, with the moves of all marks of all pairs of legs
-/// summed for each set and threshold.
+/// As `neighbour_sharing`, with the moves of all marks of the swept pairs of
+/// legs summed for each set and threshold.
 pub fn neighbour_sharing_moves(
     network: &Network,
     table: &NodeTable,
@@ -396,18 +431,22 @@ fn neighbour_sharing_set(
 ) -> (Vec<u64>, Vec<u64>) {
     let mut row = vec![0u64; thresholds.values().len()];
     let mut moved = vec![0u64; thresholds.values().len()];
-    for &one in set.occupied() {
-        for &two in set.occupied() {
+    for (rank, &one) in set.occupied().iter().enumerate() {
+        for &two in &set.occupied()[rank..] {
             let pair = leg_pair(network, table, set, one, two);
-            if pair.ends == [None; 4] {
+            let Some(nearest) = pair.ends.iter().flatten().min() else {
                 continue;
-            }
+            };
             for (k, &threshold) in thresholds.values().iter().enumerate() {
+                if one != two && *nearest > threshold {
+                    continue;
+                }
                 let mut count = 0;
                 let (moves, window_moves) = run_sweep(&pair, i64::from(threshold), |_, _, reached| {
                     count += u64::from(reached);
                 });
-                row[k] += count;
+                // Two legs count once from either.
+                row[k] += if one == two { count } else { 2 * count };
                 for (end, moves) in pair.ends.iter().zip(moves) {
                     if end.is_some() {
                         moved[k] += moves;
@@ -445,12 +484,12 @@ pub fn fastest(sets: &Sets, thresholds: &Thresholds) -> Method {
     for set in sets.all() {
         let reports = set.len() as u64;
         let legs = set.occupied().len() as u64;
-        let looks = reports * legs * marks;
+        let looks = reports * legs * marks / 2;
         let search = halvings(reports / legs.max(1)) + 1;
         query += legs * legs / 2 * LEG_PAIR;
         query += reports * reports / 2 * (REPORT_PAIR + HALVE_THRESHOLDS * halvings(marks));
-        augmentation += legs * legs * LEG_PAIR + looks * search * HALVE_REPORTS;
-        sharing += legs * legs * LEG_PAIR + looks * SWEEP_STEP;
+        augmentation += legs * legs / 2 * LEG_PAIR + looks * search * HALVE_REPORTS;
+        sharing += legs * legs / 2 * LEG_PAIR + looks * SWEEP_STEP;
     }
     if query <= augmentation && query <= sharing {
         Method::RangeQuery

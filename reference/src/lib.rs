@@ -5,6 +5,7 @@
 
 #![forbid(unsafe_code)]
 
+pub mod calls;
 pub mod counts;
 pub mod distance;
 pub mod lists;

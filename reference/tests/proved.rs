@@ -3,60 +3,23 @@
 
 #![cfg(proved)]
 
+#[path = "proved/inputs.rs"]
+#[allow(dead_code)]
+mod inputs;
 #[path = "proved/library.rs"]
+#[allow(dead_code)]
 mod library;
 
-use std::collections::BTreeSet;
+use inputs::{answer_list, filled, made, network, one_of, Met};
 
 use reference::distance::{
     from_source_bounded, location_distance, perimeter_closed, perimeter_naive, Adjacency, Location, NodeTable,
 };
 use reference::lists::{
-    check_network_locations, check_network_nodes, lay_out, Faults, Refusal, MAX_LENGTH, MAX_LEGS, MAX_NODES,
-    MAX_REPORTS,
+    check_network_locations, check_network_nodes, lay_out, Faults, MAX_LENGTH, MAX_LEGS, MAX_NODES, MAX_REPORTS,
 };
-use reference::model::Network;
 use reference::random::{self, NetworkInput, Rng};
 use reference::text;
-
-/// The refusals met, so that a test can say that it met them all.
-#[derive(Default)]
-struct Met(BTreeSet<u32>);
-
-impl Met {
-    fn note<T>(&mut self, result: &Result<T, Refusal>) {
-        self.0.insert(result.as_ref().err().map_or(0, |refusal| refusal.number));
-    }
-
-    /// 0 stands for no refusal.
-    fn all(&self, numbers: &[u32]) {
-        assert_eq!(self.0, numbers.iter().copied().collect::<BTreeSet<u32>>(), "the refusals met");
-    }
-}
-
-/// Small, now and then with lengths up to the limit; damaged if wanted.
-fn network(rng: &mut Rng, damaged: bool) -> NetworkInput {
-    let length = rng.pick(&[1, 3, 9, 40, MAX_LENGTH], 9);
-    let mut input = random::network(rng, 8, 11, length);
-    if damaged {
-        random::damage_network(rng, &mut input);
-    }
-    input
-}
-
-fn made(input: &NetworkInput) -> Network {
-    Network::new(input.nodes, &input.firsts, &input.seconds, &input.lengths).expect("a good network")
-}
-
-/// A number of so many, from 1; now and then one that is none of them.
-fn one_of(rng: &mut Rng, many: u32) -> u32 {
-    match rng.below(12) {
-        0 => 0,
-        1 => many.saturating_add(1),
-        2 => random::near_limit(rng),
-        _ => rng.between(1, many.max(1)),
-    }
-}
 
 fn location(rng: &mut Rng, input: &NetworkInput) -> (u32, u32) {
     let leg = one_of(rng, input.lengths.len() as u32);
@@ -76,21 +39,6 @@ fn bound(rng: &mut Rng, input: &NetworkInput) -> u32 {
     let far = some.saturating_mul(3);
     let between = rng.between(0, far);
     rng.pick(&[0, 1, some, between, u32::MAX - 1, u32::MAX], 0)
-}
-
-/// A list with values of its own: with room to spare, or too short.
-fn answer_list(rng: &mut Rng, wanted: usize) -> Vec<u32> {
-    let length = match rng.below(8) {
-        0 => wanted.saturating_sub(1),
-        1..=3 => wanted,
-        _ => wanted + rng.index(5),
-    };
-    (0..length).map(|k| 1_000_000_000 + k as u32).collect()
-}
-
-/// The list afterwards: the values and then what stood behind them.
-fn filled(values: &[u32], old: &[u32]) -> Vec<u32> {
-    values.iter().chain(old.iter().skip(values.len())).copied().collect()
 }
 
 fn code(distance: Option<u32>) -> u32 {

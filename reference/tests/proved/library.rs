@@ -1,7 +1,7 @@
 //! Safe calls of the proved library.
 
 use reference::lists::Refusal;
-use reference::random::NetworkInput;
+use reference::random::{NetworkInput, ReportInput};
 
 #[link(name = "exports", kind = "static")]
 extern "C" {
@@ -46,6 +46,13 @@ extern "C" {
         edge: u32, offset: u32, radius: u32,
         number: *mut u32, place: *mut usize,
     ) -> u32;
+    fn kc_range_counts(
+        nodes: u32, firsts: *const u32, firsts_len: usize, seconds: *const u32, seconds_len: usize,
+        lengths: *const u32, lengths_len: usize,
+        sets: *const u32, sets_len: usize, edges: *const u32, edges_len: usize, offsets: *const u32, offsets_len: usize,
+        thresholds: *const u32, thresholds_len: usize, answers: *mut u32, answers_len: usize,
+        number: *mut u32, place: *mut usize,
+    );
     fn kc_read_thresholds(
         text: *const u8, text_len: usize,
         thresholds: *mut u32, thresholds_len: usize,
@@ -159,6 +166,32 @@ pub fn perimeter_count(net: &NetworkInput, centre: (u32, u32), radius: u32) -> R
         )
     })
 }
+
+/// The same call for every method that counts pairs.
+macro_rules! counts {
+    ($name:ident, $function:ident) => {
+        pub fn $name(
+            net: &NetworkInput,
+            reports: &ReportInput,
+            thresholds: &[u32],
+            answers: &mut [u32],
+        ) -> Result<(), Refusal> {
+            // SAFETY: as above.
+            told(|number, place| unsafe {
+                $function(
+                    net.nodes, net.firsts.as_ptr(), net.firsts.len(), net.seconds.as_ptr(), net.seconds.len(),
+                    net.lengths.as_ptr(), net.lengths.len(),
+                    reports.sets.as_ptr(), reports.sets.len(), reports.legs.as_ptr(), reports.legs.len(),
+                    reports.offsets.as_ptr(), reports.offsets.len(),
+                    thresholds.as_ptr(), thresholds.len(), answers.as_mut_ptr(), answers.len(),
+                    number, place,
+                )
+            })
+        }
+    };
+}
+
+counts!(range_counts, kc_range_counts);
 
 pub fn read_thresholds(text: &[u8], thresholds: &mut [u32]) -> Result<usize, Refusal> {
     // SAFETY: as above.
