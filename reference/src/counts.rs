@@ -500,9 +500,11 @@ pub fn fastest(sets: &Sets, thresholds: &Thresholds) -> Method {
     }
 }
 
-/// Counts by one method, with its own bounded table.
+/// Counts by one method, with its own bounded table from the ends of the legs
+/// that have reports.
 pub fn by(method: Method, network: &Network, sets: &Sets, thresholds: &Thresholds) -> Counts {
-    let table = NodeTable::bounded(network, thresholds.greatest());
+    let legs = sets.all().iter().flat_map(|set| set.occupied()).copied();
+    let table = NodeTable::bounded_from(network, thresholds.greatest(), legs);
     match method {
         Method::RangeQuery => range_query(network, &table, sets, thresholds),
         Method::CountAugmentation => count_augmentation(network, &table, sets, thresholds),

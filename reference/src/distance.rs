@@ -149,12 +149,29 @@ impl NodeTable {
         NodeTable::search(network, Some(bound))
     }
 
+    /// The same from the ends of some legs only; the other rows have no
+    /// distance.
+    pub fn bounded_from(network: &Network, bound: u32, legs: impl Iterator<Item = u32>) -> NodeTable {
+        let mut wanted = vec![false; network.nodes() as usize];
+        for (first, second, _) in legs.filter_map(|leg| network.leg(leg)) {
+            wanted[first as usize - 1] = true;
+            wanted[second as usize - 1] = true;
+        }
+        NodeTable::search_from(network, Some(bound), |node| wanted[node])
+    }
+
     fn search(network: &Network, bound: Option<u32>) -> NodeTable {
+        NodeTable::search_from(network, bound, |_| true)
+    }
+
+    fn search_from(network: &Network, bound: Option<u32>, wanted: impl Fn(usize) -> bool) -> NodeTable {
         let adjacency = Adjacency::new(network);
         let nodes = network.nodes() as usize;
         let mut cells = vec![NONE; nodes * nodes];
         for (source, row) in cells.chunks_mut(nodes).enumerate() {
-            dijkstra(&adjacency, &[(source, 0)], bound, row);
+            if wanted(source) {
+                dijkstra(&adjacency, &[(source, 0)], bound, row);
+            }
         }
         NodeTable { nodes, cells }
     }

@@ -23,10 +23,12 @@ mod bench {
     use std::hint::black_box;
     use std::time::{Duration, Instant};
 
+    use reference::calls;
+    use reference::counts::Method;
     use reference::distance::{from_source, Adjacency};
     use reference::lists::Refusal;
     use reference::model::Network;
-    use reference::random::{self, NetworkInput, Rng};
+    use reference::random::{self, NetworkInput, ReportInput, Rng};
     use reference::text;
 
     use crate::library;
@@ -72,6 +74,34 @@ mod bench {
         Ok(())
     }
 
+    type Proved = fn(&NetworkInput, &ReportInput, &[u32], &mut [u32]) -> Result<(), Refusal>;
+
+    /// Each method, with the turns that its time allows.
+    const METHODS: [(&str, Proved, Method, usize); 1] =
+        [("range query", library::range_counts, Method::RangeQuery, 12)];
+
+    /// Checks, laying out, leg-end distances and counts, from plain lists.
+    fn counting(shape: &str, input: &NetworkInput, reports: &ReportInput, thresholds: &[u32]) -> Result<(), Refusal> {
+        let wanted = calls::counts_wanted(&reports.sets, thresholds);
+        let (mut told, mut expected) = (vec![0; wanted], vec![0; wanted]);
+        for (name, proved, plain, turns) in METHODS {
+            beside(
+                &format!("{name}, {shape}"),
+                turns,
+                || {
+                    let _ = black_box(proved(input, reports, thresholds, &mut told));
+                },
+                || {
+                    let _ = black_box(calls::counts(plain, input, reports, thresholds, &mut expected));
+                },
+            );
+            assert!(told == expected, "{name}, {shape}: counts differ");
+            told.fill(0);
+            expected.fill(0);
+        }
+        Ok(())
+    }
+
     pub fn all() -> Result<(), Refusal> {
         let mut rng = Rng::new(2026);
         let ring = random::ring_network(&mut rng, 512, 1_024, 1_000);
@@ -99,6 +129,18 @@ mod bench {
             },
             || drop(black_box(text::parse_reports(&reports_text, ring.nodes, &ring.firsts, &ring.seconds, &ring.lengths))),
         );
+
+        // Thresholds up to somewhat less than the widest distance.
+        let thresholds = random::even_thresholds(64, 6_000);
+        for (shape, sets, per_set, on_legs) in [
+            ("1 set of 8,192 on 1,024 legs", 1, 8_192, 0),
+            ("32 sets of 256 on 1,024 legs", 32, 256, 0),
+            ("1 set of 8,192 on 9 legs", 1, 8_192, 9),
+            ("32 sets of 256 on 9 legs", 32, 256, 9),
+        ] {
+            let reports = random::reports(&mut rng, &ring, sets, per_set, on_legs);
+            counting(shape, &ring, &reports, &thresholds)?;
+        }
         Ok(())
     }
 }
