@@ -40,14 +40,32 @@ uint32_t kc_perimeter_count(uint32_t nodes, const uint32_t *firsts, size_t first
                             size_t seconds_len, const uint32_t *lengths, size_t lengths_len, uint32_t leg,
                             uint32_t offset, uint32_t radius, uint32_t *number, size_t *place);
 
-/* Pair counts of every set at every threshold, by a range query: for each set in turn a count for each threshold in turn.
-   answers must hold the number of sets (one more than the greatest set number, one with no reports) times the number of
-   thresholds. */
+/* Pair counts of every set at every threshold, by a range query, by numbers stored with the reports, or by marks that
+   neighbouring reports share: the same counts. For each set in turn there is a count for each threshold in turn; answers
+   must hold the number of sets (one more than the greatest set number, one with no reports) times the number of
+   thresholds. Each takes some 1.5 MB of stack. */
 void kc_range_counts(uint32_t nodes, const uint32_t *firsts, size_t firsts_len, const uint32_t *seconds,
                      size_t seconds_len, const uint32_t *lengths, size_t lengths_len, const uint32_t *sets,
                      size_t sets_len, const uint32_t *legs, size_t legs_len, const uint32_t *offsets,
                      size_t offsets_len, const uint32_t *thresholds, size_t thresholds_len, uint32_t *answers,
                      size_t answers_len, uint32_t *number, size_t *place);
+
+void kc_augmentation_counts(uint32_t nodes, const uint32_t *firsts, size_t firsts_len, const uint32_t *seconds,
+                            size_t seconds_len, const uint32_t *lengths, size_t lengths_len, const uint32_t *sets,
+                            size_t sets_len, const uint32_t *legs, size_t legs_len, const uint32_t *offsets,
+                            size_t offsets_len, const uint32_t *thresholds, size_t thresholds_len, uint32_t *answers,
+                            size_t answers_len, uint32_t *number, size_t *place);
+
+/* The six marks of two legs of a laid-out set at one threshold: by the routes from the first leg's first end to the
+   second's first and second end, from its second end to both, and on one leg the reports below the own offset less the
+   threshold and those not above it plus the threshold. positions holds the six lists one after the other, each with a
+   position for every report of the first leg; moves holds the six sums of moves. 0 stands for 'no mark', one more than
+   the number otherwise. The node distances are bounded by bound. */
+void kc_cursors(uint32_t nodes, const uint32_t *firsts, size_t firsts_len, const uint32_t *seconds, size_t seconds_len,
+                const uint32_t *lengths, size_t lengths_len, const uint32_t *legs, size_t legs_len,
+                const uint32_t *offsets, size_t offsets_len, uint32_t leg1, uint32_t leg2, uint32_t threshold,
+                uint32_t bound, uint32_t *positions, size_t positions_len, uint32_t *moves, size_t moves_len,
+                uint32_t *number, size_t *place);
 
 /* Readers of the three texts: how many legs, reports or thresholds were read. */
 size_t kc_read_network(const uint8_t *text, size_t text_len, uint32_t *firsts, size_t firsts_len, uint32_t *seconds,

@@ -21,7 +21,10 @@ use reference::random::{self, NetworkInput, ReportInput, Rng};
 type Proved = fn(&NetworkInput, &ReportInput, &[u32], &mut [u32]) -> Result<(), Refusal>;
 
 /// Each proved method with its plain counterpart.
-const METHODS: [(Proved, Method); 1] = [(library::range_counts, Method::RangeQuery)];
+const METHODS: [(Proved, Method); 2] = [
+    (library::range_counts, Method::RangeQuery),
+    (library::augmentation_counts, Method::CountAugmentation),
+];
 
 /// What a counting method takes.
 #[derive(Clone, Debug)]

@@ -23,6 +23,7 @@ use Rattle.model.specs.Network.{Network}
 use Rattle.layout.specs.Layout.{LaidOut}
 use Rattle.distance.specs.Answers.{rowCheck, RowAnswered, tableCheck, TableAnswered}
 use Rattle.prepare.specs.Counts.{countsCheck, CountsAnswered}
+use Rattle.neighbor_sharing.specs.Answers.{cursorsCheck, CursorsAnswered}
 use Rattle.readers.specs.Answers.{listAnswer, thresholdTextCheck, textThresholds, ThresholdsRead, eventTextCheck, textRows, EventsRead, networkAnswer, networkTextCheck, textNetwork, NetworkRead}
 
 -- nothing is refused
@@ -102,6 +103,10 @@ table-answered {net} {bound} {wanted} {old} {new} {r} {n} {p} table told = (subs
 -- counts answered, and their verdict told
 pub counts-answered : {net : Network} {sets es xs ts old new : List ℕ} {r : Check} {n p : ℕ} → CountsAnswered net sets es xs ts old r new → Told r n p → Told (countsCheck net sets es xs ts (length old)) n p × CountsAnswered net sets es xs ts old (countsCheck net sets es xs ts (length old)) new
 counts-answered {net} {sets} {es} {xs} {ts} {old} {new} {r} {n} {p} counts told = (subst (λ v. Told v n p) (counts .verdict) told, subst (λ v. CountsAnswered net sets es xs ts old v new) (counts .verdict) counts)
+
+-- cursors answered, and their verdict told
+pub cursors-answered : {net : Network} {es xs : List ℕ} {e f t bound : ℕ} {ps ms ps′ ms′ : List ℕ} {r : Check} {n p : ℕ} → CursorsAnswered net es xs e f t bound ps ms r ps′ ms′ → Told r n p → Told (cursorsCheck net es xs e f ps ms) n p × CursorsAnswered net es xs e f t bound ps ms (cursorsCheck net es xs e f ps ms) ps′ ms′
+cursors-answered {net} {es} {xs} {e} {f} {t} {bound} {ps} {ms} {ps′} {ms′} {r} {n} {p} cursors told = (subst (λ v. Told v n p) (cursors .verdict) told, subst (λ v. CursorsAnswered net es xs e f t bound ps ms v ps′ ms′) (cursors .verdict) cursors)
 
 -- thresholds read, and the answer told
 pub thresholds-read : {bytes old new : List ℕ} {a : ReadList} {r n p : ℕ} → ThresholdsRead bytes old a new → ToldWith (listVerdict a) (readOf a) r n p → ToldWith (listVerdict (listAnswer (thresholdTextCheck bytes old) (length (textThresholds bytes)))) (readOf (listAnswer (thresholdTextCheck bytes old) (length (textThresholds bytes)))) r n p × ThresholdsRead bytes old (listAnswer (thresholdTextCheck bytes old) (length (textThresholds bytes))) new

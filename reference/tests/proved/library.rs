@@ -53,6 +53,21 @@ extern "C" {
         thresholds: *const u32, thresholds_len: usize, answers: *mut u32, answers_len: usize,
         number: *mut u32, place: *mut usize,
     );
+    fn kc_augmentation_counts(
+        nodes: u32, firsts: *const u32, firsts_len: usize, seconds: *const u32, seconds_len: usize,
+        lengths: *const u32, lengths_len: usize,
+        sets: *const u32, sets_len: usize, edges: *const u32, edges_len: usize, offsets: *const u32, offsets_len: usize,
+        thresholds: *const u32, thresholds_len: usize, answers: *mut u32, answers_len: usize,
+        number: *mut u32, place: *mut usize,
+    );
+    fn kc_cursors(
+        nodes: u32, firsts: *const u32, firsts_len: usize, seconds: *const u32, seconds_len: usize,
+        lengths: *const u32, lengths_len: usize,
+        edges: *const u32, edges_len: usize, offsets: *const u32, offsets_len: usize,
+        edge1: u32, edge2: u32, threshold: u32, bound: u32,
+        positions: *mut u32, positions_len: usize, moves: *mut u32, moves_len: usize,
+        number: *mut u32, place: *mut usize,
+    );
     fn kc_read_thresholds(
         text: *const u8, text_len: usize,
         thresholds: *mut u32, thresholds_len: usize,
@@ -192,6 +207,31 @@ macro_rules! counts {
 }
 
 counts!(range_counts, kc_range_counts);
+counts!(augmentation_counts, kc_augmentation_counts);
+
+/// The marks of two edges, given as a pair.
+pub fn cursors(
+    net: &NetworkInput,
+    edges: &[u32],
+    offsets: &[u32],
+    two_edges: (u32, u32),
+    threshold: u32,
+    bound: u32,
+    positions: &mut [u32],
+    moves: &mut [u32],
+) -> Result<(), Refusal> {
+    // SAFETY: as above.
+    told(|number, place| unsafe {
+        kc_cursors(
+            net.nodes, net.firsts.as_ptr(), net.firsts.len(), net.seconds.as_ptr(), net.seconds.len(),
+            net.lengths.as_ptr(), net.lengths.len(),
+            edges.as_ptr(), edges.len(), offsets.as_ptr(), offsets.len(),
+            two_edges.0, two_edges.1, threshold, bound,
+            positions.as_mut_ptr(), positions.len(), moves.as_mut_ptr(), moves.len(),
+            number, place,
+        )
+    })
+}
 
 pub fn read_thresholds(text: &[u8], thresholds: &mut [u32]) -> Result<usize, Refusal> {
     // SAFETY: as above.
