@@ -5,3 +5,4 @@ pub mod Reach
 pub mod Pairs
 pub mod Runs
 pub mod Events
+pub mod Totals

@@ -7,6 +7,7 @@ mod reach;
 mod runs;
 mod sets;
 mod store;
+mod totals;
 
 pub use events::augment;
 pub use sets::counts;

@@ -59,9 +59,9 @@ pub(crate) fn edge_pair(
     }
 }
 
-// No route between two edges is within the threshold: their events need not be looked at.
-fn is_beyond(g: EdgePair, threshold: u32) -> bool
-    ensures { λ r. ⌜ (r ≡ true → (x : ℕ) (ys : List ℕ) → reachedBy g threshold x ys ≡ 0) ⌝ }
+// No route between two edges is within the threshold, nor within a lower one: their events need not be looked at.
+pub(crate) fn is_beyond(g: EdgePair, threshold: u32) -> bool
+    ensures { λ r. ⌜ (r ≡ true → (t : ℕ) → t ≤ threshold → (x : ℕ) (ys : List ℕ) → reachedBy g t x ys ≡ 0) ⌝ }
 {
     if g.same {
         return false;

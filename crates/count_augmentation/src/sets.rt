@@ -1,63 +1,31 @@
 // The counts of all sets at all thresholds.
 ghost use mathlib.Core.Path.{_≡_};
-ghost use Prim.Native.Nat.{_≤_, _<_};
-ghost use lib.ListN.{length, getD};
+ghost use Prim.Native.Nat.{_≤_};
+ghost use lib.ListN.{length};
 ghost use Rattle.model.specs.Limits.{maxEvents};
 ghost use Rattle.model.specs.Network.{network};
 ghost use Rattle.prepare.specs.Counts.{CountsAnswered};
 ghost use Rattle.prepare.specs.RunPairs.{otherRow, RowReady};
-ghost use Rattle.count_augmentation.specs.Runs.{RunsStored};
+ghost use Rattle.count_augmentation.specs.Totals.{Steps, RowFits, RowSummed};
 use crate::runs::bound;
-use crate::runs::set_total;
 use crate::runs::store_runs;
+use crate::totals::add_all;
 use model::Check;
 use model::EventSet;
+use model::Thresholds;
 
-fn threshold_at(thresholds: &[u32], k: usize) -> u32
-    requires { ⌜ k < length (now thresholds) ⌝ }
-    ensures { λ t. ⌜ t ≡ getD (now (thresholds .entry)) k 0 ⌝ }
+// The counts of a set at each threshold: the pairs within its runs and twice those with earlier ones; an event is no pair with itself.
+fn write_row(bounds: &[u32], r: usize, q: usize, beside: &[u64], earlier: &[u64], row: &mut [u32])
+    requires { ⌜ RowFits (now bounds) r q (now beside) (now earlier) (length (now row)) ⌝ }
+    ensures { λ _. ⌜ RowSummed (now (bounds .entry)) r q (now (beside .entry)) (now (earlier .entry)) (now (row .entry)) (now (row .exit)) ⌝ }
 {
-    thresholds[k]
-}
-
-// The counts of a set at each threshold, the numbers of its runs being stored.
-fn write_row(
-    nodes: u32,
-    firsts: &[u32],
-    seconds: &[u32],
-    lengths: &[u32],
-    table: &[u32],
-    edges: &[u32],
-    offsets: &[u32],
-    bounds: &[u32],
-    near_first: &[u32],
-    near_second: &[u32],
-    thresholds: &[u32],
-    r: usize,
-    q: usize,
-    row: &mut [u32],
-)
-    requires { ⌜ RowReady (network nodes (now firsts) (now seconds) (now lengths)) (now table) (now edges) (now offsets) (now bounds) (now thresholds) r q × RunsStored (now offsets) (now bounds) (now «near_first») (now «near_second») r q × (length (now row) ≡ length (now thresholds)) ⌝ }
-    ensures { λ _. ⌜ now (row .exit) ≡ otherRow (network nodes (now (firsts .entry)) (now (seconds .entry)) (now (lengths .entry))) (now (edges .entry)) (now (offsets .entry)) (now (bounds .entry)) (now (thresholds .entry)) r q ⌝ }
-{
+    let events = bound(bounds, q) - bound(bounds, r);
+    let themselves = events as u64;
     let mut k = 0;
     while k < row.len() {
-        let threshold = threshold_at(thresholds, k);
-        row[k] = set_total(
-            nodes,
-            firsts,
-            seconds,
-            lengths,
-            table,
-            edges,
-            offsets,
-            bounds,
-            near_first,
-            near_second,
-            threshold,
-            r,
-            q,
-        );
+        let total = beside[k] + 2 * earlier[k];
+        let others = total - themselves;
+        row[k] = others as u32;
         k += 1;
     }
 }
@@ -79,11 +47,13 @@ fn set_row(
     q: usize,
     row: &mut [u32],
 )
-    requires { ⌜ RowReady (network nodes (now firsts) (now seconds) (now lengths)) (now table) (now edges) (now offsets) (now bounds) (now thresholds) r q × (1 ≤ length (now thresholds)) × (maxEvents ≤ length (now «near_first»)) × (maxEvents ≤ length (now «near_second»)) × (length (now row) ≡ length (now thresholds)) ⌝ }
+    requires { ⌜ RowReady (network nodes (now firsts) (now seconds) (now lengths)) (now table) (now edges) (now offsets) (now bounds) (now thresholds) r q × Steps (now thresholds) × (maxEvents ≤ length (now «near_first»)) × (maxEvents ≤ length (now «near_second»)) × (length (now row) ≡ length (now thresholds)) ⌝ }
     ensures { λ _. ⌜ now (row .exit) ≡ otherRow (network nodes (now (firsts .entry)) (now (seconds .entry)) (now (lengths .entry))) (now (edges .entry)) (now (offsets .entry)) (now (bounds .entry)) (now (thresholds .entry)) r q ⌝ }
 {
     store_runs(offsets, bounds, r, q, near_first, near_second);
-    write_row(
+    let mut beside = [0u64; Thresholds::MAX_THRESHOLDS];
+    let mut earlier = [0u64; Thresholds::MAX_THRESHOLDS];
+    add_all(
         nodes,
         firsts,
         seconds,
@@ -97,8 +67,10 @@ fn set_row(
         thresholds,
         r,
         q,
-        row,
+        &mut beside,
+        &mut earlier,
     );
+    write_row(bounds, r, q, &beside, &earlier, row);
 }
 
 // The same with working storage lent.

@@ -1,6 +1,6 @@
 -- Two runs of a set: what is asked to look the one's events up from the other's, and that the pairs found are theirs.
 use mathlib.Core.List.{List}
-use mathlib.Core.Path.{_≡_, sym, _∙_}
+use mathlib.Core.Path.{_≡_, refl, sym, ap, _∙_}
 use Prim.Native.Nat.{ℕ, suc, pred, _+_, _-_, _≤_, _<_}
 use native.Mathlib.Numerals.{add-one}
 use native.Mathlib.Omega.{arith}
@@ -16,8 +16,10 @@ use Rattle.count_augmentation.specs.Pairs.{edgePair, EndTable, reachedBy
 use Rattle.count_augmentation.specs.Reach.{reached}
 use Rattle.count_augmentation.specs.Runs.{RunStored}
 use Rattle.count_augmentation.specs.Storing.{OnEdge}
+use Rattle.count_augmentation.specs.Totals.{Steps, ReadyAt, AddedAt}
 use Rattle.count_augmentation.specs.declared.pairs.EdgePair.{EdgePair}
 use Rattle.count_augmentation.proofs.Laws.Near.{reached-within}
+use Rattle.count_augmentation.proofs.Laws.Pairs.{no-pairs}
 use Rattle.count_augmentation.proofs.Laws.Places.{count-places}
 
 -- what is read for runs a and b: where each begins and ends, and the index of its edge
@@ -116,3 +118,21 @@ module _ {net : Network} {table es xs bounds : List ℕ} {r q t : ℕ} (w : Runs
       runs-met x e =
           rw (g-is, read .edge-is, read .other-edge-is, read .from-is, read .to-is, read .other-from-is, read .other-to-is, add-one a, add-one b) at e
           ∙ pairs-reached
+
+-- at every threshold
+module _ {net : Network} {table es xs bounds ts : List ℕ} {a b : ℕ} (w : ReadyAt net table es xs bounds ts b (suc a)) (order : b ≤ a)
+    {from to other-from other-to e f : ℕ} (read : RunsRead es bounds a b from to other-from other-to e f) (g : EdgePair) (g-is : g ≡ edgePair net table e f) where
+  met-at : (k : ℕ) → k < length ts → (x : ℕ) → x ≡ reachedPairs g (getD ts k 0) (take (to - from) (drop from xs)) (take (other-to - other-from) (drop other-from xs)) → x ≡ runPairs net es xs bounds (getD ts k 0) a b
+  met-at k h = runs-met (w .at k h) a b order (omega arith) (omega arith) (omega arith) read g g-is
+
+  pub runs-added : {old new : List ℕ} → AddedAt (length ts) (λ k. reachedPairs g (getD ts k 0) (take (to - from) (drop from xs)) (take (other-to - other-from) (drop other-from xs))) old new → AddedAt (length ts) (λ k. runPairs net es xs bounds (getD ts k 0) a b) old new
+  runs-added {old} found = record { at = λ k h. found .at k h ∙ ap (λ (n : ℕ). getD old k 0 + n) (met-at k h _ refl) }
+
+  -- no route is within the greatest
+  pub runs-apart : (old : List ℕ) → Steps ts → (greatest : ℕ) → greatest ≡ getD ts (length ts - 1) 0 → ((t : ℕ) → t ≤ greatest → (x : ℕ) (ys : List ℕ) → reachedBy g t x ys ≡ 0) → AddedAt (length ts) (λ k. runPairs net es xs bounds (getD ts k 0) a b) old old
+  runs-apart old steps greatest last none = record { at = λ k h. omega (arith, met-at k h 0 (no-pairs g (getD ts k 0) _ _ (none (getD ts k 0) (lower k h)))) }
+    where
+      lower : (k : ℕ) → k < length ts → getD ts k 0 ≤ greatest
+      lower k h =
+          let same : length ts - 1 ≡ pred (length ts) = omega arith in
+          rw (last, same) (steps .to-last k h)

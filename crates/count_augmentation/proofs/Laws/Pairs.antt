@@ -37,12 +37,21 @@ farthest-none : (t p x by-first by-second : ℕ) → reachOf t 0 by-first ≡ 0 
 unfolding farthest
 farthest-none t p x f s hf hs = simp (reach-none t x f hf, reach-none t (p - x) s hs)
 
+-- nor does a lower threshold
+reach-lower : (t t′ entry : ℕ) → t ≤ t′ → reachOf t′ 0 entry ≡ 0 → reachOf t 0 entry ≡ 0
+unfolding reachOf
+reach-lower t t′ zero h e = refl
+reach-lower t t′ (suc entry) h e =
+    let spent : suc t′ - (0 + entry) ≡ 0 = rw (eqb·suc-zero entry) at e in
+    rw (eqb·suc-zero entry) (omega arith)
+
 module _ (g : EdgePair) (t : ℕ) where
-  -- no route is within the threshold, even without gaps
-  pub none-reached : g .same ≡ false → reachOf t 0 (g .firsts) ≡ 0 → reachOf t 0 (g .onward) ≡ 0 → reachOf t 0 (g .back) ≡ 0 → reachOf t 0 (g .seconds) ≡ 0 → (x : ℕ) (ys : List ℕ) → reachedBy g t x ys ≡ 0
+  -- no route is within a threshold that is no lower, even without gaps
+  pub none-reached : (t′ : ℕ) → t ≤ t′ → g .same ≡ false → reachOf t′ 0 (g .firsts) ≡ 0 → reachOf t′ 0 (g .onward) ≡ 0 → reachOf t′ 0 (g .back) ≡ 0 → reachOf t′ 0 (g .seconds) ≡ 0 → (x : ℕ) (ys : List ℕ) → reachedBy g t x ys ≡ 0
   unfolding reachedBy
-  none-reached other ff fs sf ss x ys =
-      rw (other, farthest-none t (g .size) x (g .firsts) (g .back) ff sf, farthest-none t (g .size) x (g .onward) (g .seconds) fs ss)
+  none-reached t′ h other ff fs sf ss x ys =
+      let lower : (entry : ℕ) → reachOf t′ 0 entry ≡ 0 → reachOf t 0 entry ≡ 0 = λ entry e. reach-lower t t′ entry h e in
+      rw (other, farthest-none t (g .size) x (g .firsts) (g .back) (lower _ ff) (lower _ sf), farthest-none t (g .size) x (g .onward) (g .seconds) (lower _ fs) (lower _ ss))
       (sym (nothing-reached (g .other) ys 0 0 t x refl refl))
 
   -- at most a whole run is reached

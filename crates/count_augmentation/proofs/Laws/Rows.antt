@@ -1,15 +1,19 @@
 -- The row of a set: its runs can be stored, and a row filled threshold by threshold is the set's.
 use mathlib.Core.List.{List, [], _∷_, map}
-use mathlib.Core.Path.{_≡_, refl, sym, _∙_}
-use Prim.Native.Nat.{ℕ, zero, suc, _-_, _≤_, _<_}
+use mathlib.Core.Path.{_≡_, refl, sym, ap, _∙_}
+use Prim.Native.Nat.{ℕ, zero, suc, _+_, _-_, _*_, _≤_, _<_}
 use native.Mathlib.Omega.{arith}
-use lib.ListN.{length, getD, length-map}
+use lib.ListN.{length, getD, length-map, replicate, length-replicate, getD-replicate}
 use lib.Seq.{ext-getD}
+use Rattle.model.proofs.Laws.Checks.{ThresholdsAccepted}
 use Rattle.model.specs.Limits.{maxEvents}
 use Rattle.model.specs.Network.{Network}
 use Rattle.prepare.proofs.Laws.RunPairs.{run-is}
-use Rattle.prepare.specs.RunPairs.{otherPairs, otherRow, RunsReady}
+use Rattle.prepare.proofs.Laws.SetPairs.{at-most-greatest}
+use Rattle.prepare.specs.Prepared.{greatest}
+use Rattle.prepare.specs.RunPairs.{allPairs, otherPairs, otherRow, RunsReady, RowReady}
 use Rattle.count_augmentation.specs.Runs.{RunsStorable}
+use Rattle.count_augmentation.specs.Totals.{Steps, UpTo, Totalled, RowFits, RowSummed}
 use Rattle.count_augmentation.proofs.Laws.Storing.{Filled}
 
 -- the runs of a set can be stored
@@ -37,17 +41,50 @@ map-at f [] k h = absurd (omega arith)
 map-at f (x ∷ l) zero h = refl
 map-at f (x ∷ l) (suc k) h = map-at f l k (omega arith)
 
-module _ (net : Network) (es xs bounds ts : List ℕ) (r q : ℕ) where
-  -- what stands at each threshold's place
-  unfoldable pub othersAt : ℕ → ℕ
-  othersAt k = otherPairs net es xs bounds (getD ts k 0) r q
+-- what the code leaves of a total
+unfoldable pub leftOf : List ℕ → ℕ → ℕ → List ℕ → List ℕ → ℕ → ℕ
+leftOf bounds r q beside earlier k = getD beside k 0 + 2 * getD earlier k 0 - (getD bounds q 0 - getD bounds r 0)
 
-  pub row-begins : (row : List ℕ) → Filled othersAt 0 0 row
-  row-begins row = record { at = λ j l h. absurd (omega arith) }
+pub row-begins : (f : ℕ → ℕ) (row : List ℕ) → Filled f 0 0 row
+row-begins f row = record { at = λ j l h. absurd (omega arith) }
 
-  pub row-filled : (row : List ℕ) → length row ≡ length ts → (k : ℕ) → length row ≤ k → Filled othersAt 0 k row → row ≡ otherRow net es xs bounds ts r q
-  unfolding otherRow othersAt
-  row-filled row long k end filled =
-      let others : ℕ → ℕ = λ t. otherPairs net es xs bounds t r q in
-      ext-getD 0 row (map others ts) (long ∙ sym (length-map ts others))
-      (λ i h. filled .at i (omega arith) (omega arith) ∙ sym (map-at others ts i (omega arith)))
+pub row-ends : {bounds beside earlier old new : List ℕ} {r q k : ℕ} → Filled (leftOf bounds r q beside earlier) 0 k new → length old ≤ k → RowSummed bounds r q beside earlier old new
+unfolding leftOf
+row-ends filled h = record { at = λ j l. filled .at j (omega arith) (omega arith) }
+
+-- the row of a set
+module _ {net : Network} {table es xs bounds ts : List ℕ} {r q : ℕ} (w : RowReady net table es xs bounds ts r q) {beside earlier : List ℕ} (totals : Totalled net es xs bounds ts r q beside earlier) where
+  pub row-fits : Steps ts → (n : ℕ) → n ≡ length ts → RowFits bounds r q beside earlier n
+  unfolding otherPairs
+  row-fits steps n long =
+      let some = steps .some in
+      rw long
+      (record {
+        in-order = w .ready-at 0 some .in-order;
+        in-bounds = w .ready-at 0 some .in-bounds;
+        begins = w .fits-at 0 some .begins;
+        beside-small = totals .beside-small;
+        earlier-small = totals .earlier-small;
+        themselves = λ k h. rw (totals .sum k h) (w .fits-at k h .themselves);
+        small = λ k h. rw (totals .sum k h) (w .fits-at k h .small);
+      })
+
+  pub row-is : (old new : List ℕ) → length old ≡ length ts → length new ≡ length old → RowSummed bounds r q beside earlier old new → new ≡ otherRow net es xs bounds ts r q
+  unfolding otherRow otherPairs
+  row-is old new long kept summed =
+      let others : ℕ → ℕ = λ t. allPairs net es xs bounds t r (q - r) - (getD bounds q 0 - getD bounds r 0) in
+      ext-getD 0 new (map others ts) (kept ∙ long ∙ sym (length-map ts others))
+      (λ k h. summed .at k (omega arith) ∙ ap (λ (n : ℕ). n - (getD bounds q 0 - getD bounds r 0)) (totals .sum k (omega arith)) ∙ sym (map-at others ts k (omega arith)))
+
+-- accepted thresholds
+pub steps-accepted : {ts : List ℕ} → ThresholdsAccepted ts → Steps ts
+unfolding greatest
+steps-accepted {ts} up = record { some = up .some; few = up .few; to-last = at-most-greatest ts up }
+
+-- lists of zeros
+pub zeros : (n m : ℕ) → n ≤ m → UpTo n 0 (replicate {A = ℕ} m 0)
+zeros n m h =
+    record {
+      long = rw (length-replicate {A = ℕ} m 0) h;
+      small = λ k l. rw (getD-replicate {A = ℕ} m k 0 0 (omega arith)) (omega arith);
+    }

@@ -21,7 +21,7 @@ is-beyond-requires : tie.Need-is-beyond-requires Inv-loop μ-loop
 is-beyond-requires c κs = search needs
 
 returns : tie.Need-returns Inv-loop μ-loop
-returns c = (no-pairs _ _ _ _ (c .before .is-beyond .ensures (c .if1 .taken)), omega arith)
+returns c = (no-pairs _ _ _ _ (c .before .is-beyond .ensures (c .if1 .taken) _ (omega arith)), omega arith)
 
 loop-holds : tie.Need-loop-holds Inv-loop μ-loop
 unfolding sumBelow

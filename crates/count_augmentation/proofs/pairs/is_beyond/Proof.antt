@@ -8,33 +8,33 @@ use Rattle.count_augmentation.proofs.pairs.is_beyond.Statement.{stateme
 use Rattle.count_augmentation.proofs.pairs.is_beyond.Tie as tie
 
 returns : tie.Need-returns
-returns c = λ e. absurd (false≢true e)
+returns c = λ e t h. absurd (false≢true e)
 
 reach-by-requires : tie.Need-reach-by-requires
 reach-by-requires c κs = search needs
 
 returns-2 : tie.Need-returns-2
-returns-2 c = λ e. absurd (false≢true e)
+returns-2 c = λ e t h. absurd (false≢true e)
 
 reach-by-requires-2 : tie.Need-reach-by-requires-2
 reach-by-requires-2 c κs = search needs
 
 returns-3 : tie.Need-returns-3
-returns-3 c = λ e. absurd (false≢true e)
+returns-3 c = λ e t h. absurd (false≢true e)
 
 reach-by-requires-3 : tie.Need-reach-by-requires-3
 reach-by-requires-3 c κs = search needs
 
 returns-4 : tie.Need-returns-4
-returns-4 c = λ e. absurd (false≢true e)
+returns-4 c = λ e t h. absurd (false≢true e)
 
 reach-by-requires-4 : tie.Need-reach-by-requires-4
 reach-by-requires-4 c κs = search needs
 
 returns-5 : tie.Need-returns-5
-returns-5 c = λ e.
+returns-5 c = λ e t h.
     let start = c .before .before .before .before .before .before .before .before in
-    none-reached (start .args .g) (start .args .threshold) (c .before .before .before .before .before .before .before .if1 .left)
+    none-reached (start .args .g) t (start .args .threshold) h (c .before .before .before .before .before .before .before .if1 .left)
     (omega arith)
     (omega arith)
     (omega arith)

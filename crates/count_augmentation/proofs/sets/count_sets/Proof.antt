@@ -6,6 +6,7 @@ use native.Mathlib.Omega.{arith}
 use lib.ListN.{length}
 use Rattle.model.specs.Network.{network}
 use Rattle.prepare.proofs.Laws.AllSets.{Begun, begun, SetsWritten, sets-begin, row-fits, row-asks, set-written, refused-answered, all-answered}
+use Rattle.count_augmentation.proofs.Laws.Rows.{steps-accepted}
 use Rattle.count_augmentation.proofs.Laws.Storage.{part-length}
 use borrow.Author.Needs.{needs}
 use Rattle.count_augmentation.proofs.sets.count_sets.Statement.{statement}
@@ -85,7 +86,7 @@ set-row-requires c κs = (
         table-length = c .before .before .before .before .before .before .before .before .before .set-row-arg2 .given .0;
       })
       (c .before .before .before .before .before .before .before .before .before .before .before .before .before .before .before .before .before .loop-test .taken) (c .before .before .before .before .before .before .before .before .before .before .before .before .before .before .bound .ensures) (c .before .before .before .before .before .before .before .before .before .before .before .bound2 .ensures),
-  fixed (c .before .before .before .before .before .before .before .before .before .before .before .before .before .before .before .before .before .before .before) .accepted .thresholds-are .some,
+  steps-accepted (fixed (c .before .before .before .before .before .before .before .before .before .before .before .before .before .before .before .before .before .before .before) .accepted .thresholds-are),
   omega (arith, c .before .before .set-row-arg9 .given .0),
   omega (arith, c .before .set-row-arg10 .given .0),
   part-length _ _ _ (next-fits (c .before .before .before .before .before .before .before .before .before .before .before .before .before .before .before .before .before)) ∙ add-sub-cancel-left _ _,

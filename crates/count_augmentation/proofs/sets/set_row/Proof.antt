@@ -1,31 +1,58 @@
--- The numbers of the set's runs are stored, and the row is written from them.
-use Rattle.count_augmentation.proofs.Laws.Rows.{runs-storable}
+-- The numbers of the set's runs are stored, its pairs added up from them, and the row written.
+use Rattle.count_augmentation.proofs.Laws.Rows.{runs-storable, zeros, row-fits, row-is}
+use borrow.Author.Needs.{needs}
 use Rattle.count_augmentation.proofs.sets.set_row.Statement.{statement}
 use Rattle.count_augmentation.proofs.sets.set_row.Tie as tie
 
 store-runs-requires : tie.Need-store-runs-requires
-store-runs-requires c κs = runs-storable (c .before .before .before .before .before .before .before .before .before .before .before .before .before .pre .0 .ready-at 0 (c .before .before .before .before .before .before .before .before .before .before .before .before .before .pre .1)) _ _ (c .before .before .before .before .before .before .before .before .before .before .before .before .before .pre .2) (c .before .before .before .before .before .before .before .before .before .before .before .before .before .pre .3)
+store-runs-requires c κs = runs-storable (c .before .before .before .before .before .before .before .before .before .before .before .before .before .pre .0 .ready-at 0 (c .before .before .before .before .before .before .before .before .before .before .before .before .before .pre .1 .some)) _ _ (c .before .before .before .before .before .before .before .before .before .before .before .before .before .pre .2) (c .before .before .before .before .before .before .before .before .before .before .before .before .before .pre .3)
+
+slice-aggregate-add-all : tie.Need-slice-aggregate-add-all
+slice-aggregate-add-all c = search needs
+
+slice-aggregate-add-all-2 : tie.Need-slice-aggregate-add-all-2
+slice-aggregate-add-all-2 c = search needs
+
+add-all-requires : tie.Need-add-all-requires
+add-all-requires c κs = (
+  record { at = c .before .before .before .before .before .before .before .before .before .before .before .before .before .before .before .before .before .before .before .before .before .before .pre .0 .ready-at },
+  c .before .before .before .before .before .before .before .before .store-runs .ensures,
+  c .before .before .before .before .before .before .before .before .before .before .before .before .before .before .before .before .before .before .before .before .before .before .pre .1,
+  zeros _ 64 (c .before .before .before .before .before .before .before .before .before .before .before .before .before .before .before .before .before .before .before .before .before .before .pre .1 .few),
+  zeros _ 64 (c .before .before .before .before .before .before .before .before .before .before .before .before .before .before .before .before .before .before .before .before .before .before .pre .1 .few),
+)
+
+slice-aggregate-write-row : tie.Need-slice-aggregate-write-row
+slice-aggregate-write-row c = search needs
+
+slice-aggregate-write-row-2 : tie.Need-slice-aggregate-write-row-2
+slice-aggregate-write-row-2 c = search needs
 
 write-row-requires : tie.Need-write-row-requires
-write-row-requires c κs = (c .before .before .before .before .before .before .before .before .before .before .before .before .before .before .before .before .before .before .before .before .before .pre .0, c .before .before .before .before .before .before .before .store-runs .ensures, c .before .before .before .before .before .before .before .before .before .before .before .before .before .before .before .before .before .before .before .before .before .pre .4)
+write-row-requires c κs = row-fits (c .before .before .before .before .before .before .before .before .before .before .before .before .before .before .before .before .before .before .before .before .before .before .before .before .before .before .before .before .pre .0) (c .before .before .before .before .before .add-all .ensures) (c .before .before .before .before .before .before .before .before .before .before .before .before .before .before .before .before .before .before .before .before .before .before .before .before .before .before .before .before .pre .1) _ (c .before .before .before .before .before .before .before .before .before .before .before .before .before .before .before .before .before .before .before .before .before .before .before .before .before .before .before .before .pre .4)
 
 same-length : tie.Need-same-length
-same-length c = c .before .before .before .before .before .before .before .before .before .near-first .given
+same-length c = c .before .before .before .before .before .before .before .before .before .before .before .before .before .before .before .before .near-first .given
 
 same-length-2 : tie.Need-same-length-2
-same-length-2 c = c .before .before .before .before .before .before .before .near-second .given
+same-length-2 c = c .before .before .before .before .before .before .before .before .before .before .before .before .before .before .near-second .given
 
 same-length-3 : tie.Need-same-length-3
 same-length-3 c = c .before .row .given
 
 returns : tie.Need-returns
-returns c = c .before .before .write-row .ensures
+returns c = row-is (c .before .before .before .before .before .before .before .before .before .before .before .before .before .before .before .before .before .before .before .before .before .before .before .before .before .before .before .before .before .before .before .pre .0) (c .before .before .before .before .before .before .before .before .add-all .ensures) _ _ (c .before .before .before .before .before .before .before .before .before .before .before .before .before .before .before .before .before .before .before .before .before .before .before .before .before .before .before .before .before .before .before .pre .4) (c .before .row .given) (c .before .before .write-row .ensures)
 
 pub set-row-spec : {M : Type 1} → statement M
 set-row-spec =
     tie.close
     (tie.spec
     store-runs-requires
+    slice-aggregate-add-all
+    slice-aggregate-add-all-2
+    add-all-requires
+    slice-aggregate-write-row
+    slice-aggregate-write-row-2
     write-row-requires
     same-length
     same-length-2
