@@ -7,6 +7,7 @@ ghost use lib.ListN.{length, getD};
 ghost use Rattle.model.specs.Network.{network};
 ghost use Rattle.count_augmentation.specs.Pairs.{edgePair, EndTable, reachedBy, reachedPairs, TwoRuns};
 ghost use Rattle.count_augmentation.specs.Reach.{Run};
+ghost use Rattle.count_augmentation.specs.Storing.{OnEdge};
 use crate::reach::count_reached;
 use crate::reach::reach;
 use crate::reach::reach_by;
@@ -78,6 +79,23 @@ pub(crate) fn is_beyond(g: EdgePair, threshold: u32) -> bool
     reach_by(threshold, 0, g.seconds) == 0
 }
 
+// The whole second edge is within the threshold of every place on the first, by one route: all their events are pairs.
+fn is_whole(g: EdgePair, threshold: u32) -> bool
+    ensures { λ r. ⌜ (r ≡ true → (x : ℕ) (ys : List ℕ) → x ≤ g .size → OnEdge (g .other) ys → length ys ≡ reachedBy g threshold x ys) ⌝ }
+{
+    let whole = g.other as u64;
+    if whole < reach_by(threshold, g.size, g.firsts) {
+        return true;
+    }
+    if whole < reach_by(threshold, g.size, g.onward) {
+        return true;
+    }
+    if whole < reach_by(threshold, g.size, g.back) {
+        return true;
+    }
+    whole < reach_by(threshold, g.size, g.seconds)
+}
+
 // For each event of a run on the first edge, how many of a run on the second it reaches.
 pub(crate) fn count_run(
     g: EdgePair,
@@ -92,6 +110,9 @@ pub(crate) fn count_run(
 {
     if is_beyond(g, threshold) {
         return 0;
+    }
+    if is_whole(g, threshold) {
+        return from_offsets.len() as u64 * offsets.len() as u64;
     }
     let mut total = 0;
     let mut i = 0;

@@ -1,20 +1,21 @@
 -- Two runs: the table entries between their edges' ends, and bounds on what their events reach.
 use mathlib.Core.Bool.{Bool, false}
 use mathlib.Core.List.{List}
-use mathlib.Core.Path.{_≡_, refl, sym}
+use mathlib.Core.Path.{_≡_, refl, sym, _∙_}
 use Prim.Native.Nat.{ℕ, zero, suc, _+_, _-_, _*_, _≤_, _<_}
 use native.Mathlib.Nat.{mul-le-mul, mul-le-mul-right, suc-mul}
 use native.Mathlib.Numerals.{add-one}
 use native.Mathlib.Omega.{arith}
 use lib.Dec.{eqb·suc-zero}
 use lib.ListN.{length, getD}
-use Rattle.model.proofs.Laws.Counting.{count-at-most, sum-below-zero}
+use Rattle.model.proofs.Laws.Counting.{count-at-most, sum-below-zero, sum-below-cong}
 use Rattle.model.specs.Counting.{sumBelow}
 use Rattle.model.specs.Network.{Network, IsNode}
 use Rattle.count_augmentation.specs.Pairs.{EndTable, reachedBy, reachedPairs}
 use Rattle.count_augmentation.specs.Reach.{reachOf, farthest, reached}
+use Rattle.count_augmentation.specs.Storing.{OnEdge}
 use Rattle.count_augmentation.specs.declared.pairs.EdgePair.{EdgePair}
-use Rattle.count_augmentation.proofs.Laws.Reach.{nothing-reached}
+use Rattle.count_augmentation.proofs.Laws.Reach.{nothing-reached, all-from-first, all-from-second}
 
 -- the entry of two nodes lies within a square table, which is no larger than the greatest one
 pub in-square : (nodes k l : ℕ) → k < nodes → l < nodes → k * nodes + l < nodes * nodes
@@ -45,6 +46,18 @@ reach-lower t t′ (suc entry) h e =
     let spent : suc t′ - (0 + entry) ≡ 0 = rw (eqb·suc-zero entry) at e in
     rw (eqb·suc-zero entry) (omega arith)
 
+-- a lesser gap reaches no less far
+reach-nearer : (t a a′ entry : ℕ) → a ≤ a′ → reachOf t a′ entry ≤ reachOf t a entry
+unfolding reachOf
+reach-nearer t a a′ zero h = omega arith
+reach-nearer t a a′ (suc entry) h = rw (eqb·suc-zero entry) (omega arith)
+
+-- as many times one number
+sum-same : (n m : ℕ) → sumBelow n (λ i. m) ≡ n * m
+unfolding sumBelow
+sum-same zero m = omega arith
+sum-same (suc n) m = omega (arith, sum-same n m, suc-mul n m)
+
 module _ (g : EdgePair) (t : ℕ) where
   -- no route is within a threshold that is no lower, even without gaps
   pub none-reached : (t′ : ℕ) → t ≤ t′ → g .same ≡ false → reachOf t′ 0 (g .firsts) ≡ 0 → reachOf t′ 0 (g .onward) ≡ 0 → reachOf t′ 0 (g .back) ≡ 0 → reachOf t′ 0 (g .seconds) ≡ 0 → (x : ℕ) (ys : List ℕ) → reachedBy g t x ys ≡ 0
@@ -53,6 +66,34 @@ module _ (g : EdgePair) (t : ℕ) where
       let lower : (entry : ℕ) → reachOf t′ 0 entry ≡ 0 → reachOf t 0 entry ≡ 0 = λ entry e. reach-lower t t′ entry h e in
       rw (other, farthest-none t (g .size) x (g .firsts) (g .back) (lower _ ff) (lower _ sf), farthest-none t (g .size) x (g .onward) (g .seconds) (lower _ fs) (lower _ ss))
       (sym (nothing-reached (g .other) ys 0 0 t x refl refl))
+
+  -- the whole edge is within the threshold of the farthest offset by one route
+  module _ (x : ℕ) (ys : List ℕ) (h : x ≤ g .size) (on : OnEdge (g .other) ys) where
+    pub whole-by-firsts : g .other < reachOf t (g .size) (g .firsts) → length ys ≡ reachedBy g t x ys
+    unfolding reachedBy farthest
+    whole-by-firsts l =
+        all-from-first (g .other) ys on _ _ (g .same) t x (omega (arith, reach-nearer t x (g .size) (g .firsts) h))
+
+    pub whole-by-onward : g .other < reachOf t (g .size) (g .onward) → length ys ≡ reachedBy g t x ys
+    unfolding reachedBy farthest
+    whole-by-onward l =
+        all-from-second (g .other) ys on _ _ (g .same) t x (omega (arith, reach-nearer t x (g .size) (g .onward) h))
+
+    pub whole-by-back : g .other < reachOf t (g .size) (g .back) → length ys ≡ reachedBy g t x ys
+    unfolding reachedBy farthest
+    whole-by-back l =
+        all-from-first (g .other) ys on _ _ (g .same) t x (omega (arith, reach-nearer t (g .size - x) (g .size) (g .back) (omega arith)))
+
+    pub whole-by-seconds : g .other < reachOf t (g .size) (g .seconds) → length ys ≡ reachedBy g t x ys
+    unfolding reachedBy farthest
+    whole-by-seconds l =
+        all-from-second (g .other) ys on _ _ (g .same) t x (omega (arith, reach-nearer t (g .size - x) (g .size) (g .seconds) (omega arith)))
+
+  -- every two events of two runs
+  pub all-pairs : (xs ys : List ℕ) → ((x : ℕ) → x ≤ g .size → length ys ≡ reachedBy g t x ys) → OnEdge (g .size) xs → length xs * length ys ≡ reachedPairs g t xs ys
+  unfolding reachedPairs
+  all-pairs xs ys whole on =
+      sym (sum-below-cong (length xs) _ _ (λ i h. sym (whole (getD xs i 0) (on .on i h))) ∙ sum-same (length xs) (length ys))
 
   -- at most a whole run is reached
   pub reached-few : (x : ℕ) (ys : List ℕ) → reachedBy g t x ys ≤ length ys

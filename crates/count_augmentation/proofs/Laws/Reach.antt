@@ -85,15 +85,15 @@ second-holds : (a w : Bool) → ((a || true) || w) ≡ true
 second-holds true w = refl
 second-holds false w = refl
 
-module _ (q : ℕ) (ys : List ℕ) (on-edge : OnEdge q ys) (f s t x : ℕ) where
-  pub all-from-first : q < f → length ys ≡ reached q f s false t x ys
+module _ (q : ℕ) (ys : List ℕ) (on-edge : OnEdge q ys) (f s : ℕ) (own : Bool) (t x : ℕ) where
+  pub all-from-first : q < f → length ys ≡ reached q f s own t x ys
   unfolding reached isReached
   all-from-first h =
       sym (count-before _ ys (length ys) (omega arith)
       (λ k l. rw (lt-ltb (getD ys k 0) f (omega (arith, on-edge .on k l))) refl)
       (λ k l m. absurd (omega arith)))
 
-  pub all-from-second : q < s → length ys ≡ reached q f s false t x ys
+  pub all-from-second : q < s → length ys ≡ reached q f s own t x ys
   unfolding reached isReached
   all-from-second h =
       sym (count-before _ ys (length ys) (omega arith)

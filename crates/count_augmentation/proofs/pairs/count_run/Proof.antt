@@ -1,12 +1,13 @@
--- The sum over the events passed.
+-- Nothing, every pair, or the sum over the events passed.
 use mathlib.Core.Path.{_≡_, refl}
 use Prim.Native.Nat.{_-_, _*_, _≤_}
+use native.Mathlib.Nat.{mul-le-mul}
 use native.Mathlib.Omega.{arith}
-use borrow.Author.Needs.{needs}
 use lib.ListN.{length, getD}
 use Rattle.model.specs.Counting.{sumBelow}
 use Rattle.count_augmentation.specs.Pairs.{reachedBy, reachedPairs}
-use Rattle.count_augmentation.proofs.Laws.Pairs.{no-pairs, sum-next}
+use Rattle.count_augmentation.proofs.Laws.Pairs.{no-pairs, all-pairs, sum-next}
+use borrow.Author.Needs.{needs}
 use Rattle.count_augmentation.proofs.pairs.count_run.Statement.{statement}
 use Rattle.count_augmentation.proofs.pairs.count_run.Tie as tie
 
@@ -23,6 +24,22 @@ is-beyond-requires c κs = search needs
 returns : tie.Need-returns Inv-loop μ-loop
 returns c = (no-pairs _ _ _ _ (c .before .is-beyond .ensures (c .if1 .taken) _ (omega arith)), omega arith)
 
+-- every two events are few enough
+product-small : (c : tie.Start Inv-loop μ-loop) → length (c .args .from-offsets .now) * length (c .args .offsets .now) ≤ 67108864
+product-small c = omega (arith, mul-le-mul (c .pre .few) (c .pre .run .few))
+
+is-whole-requires : tie.Need-is-whole-requires Inv-loop μ-loop
+is-whole-requires c κs = search needs
+
+mul-result : tie.Need-mul-result Inv-loop μ-loop
+mul-result c = omega (arith, product-small (c .before .before .before .before .before .before .before .before))
+
+returns-2 : tie.Need-returns-2 Inv-loop μ-loop
+returns-2 c = (
+  all-pairs (c .before .before .before .before .before .before .before .before .args .g) (c .before .before .before .before .before .before .before .before .args .threshold) (c .before .before .before .before .before .before .before .before .args .from-offsets .now) (c .before .before .before .before .before .before .before .before .args .offsets .now) (λ x h. c .before .is-whole .ensures (c .if2 .taken) x _ h (c .before .before .before .before .before .before .before .before .pre .run .on-edge)) (c .before .before .before .before .before .before .before .before .pre .on-edge),
+  product-small (c .before .before .before .before .before .before .before .before),
+)
+
 loop-holds : tie.Need-loop-holds Inv-loop μ-loop
 unfolding sumBelow
 loop-holds c = (omega arith, refl, omega arith)
@@ -34,12 +51,10 @@ shared-slice-read-count-event : tie.Need-shared-slice-read-count-event Inv-loop 
 shared-slice-read-count-event c = omega arith
 
 count-event-requires : tie.Need-count-event-requires Inv-loop μ-loop
-count-event-requires c κs =
-    let start = c .before .before .before .before .before .before .before .before .before in
-    (start .pre .on-edge .on (c .before .before .loop .i) (omega arith), start .pre .run)
+count-event-requires c κs = (c .before .before .before .before .before .before .before .before .before .before .before .pre .on-edge .on (c .before .before .loop .i) (omega arith), c .before .before .before .before .before .before .before .before .before .before .before .pre .run)
 
 add-total : tie.Need-add-total Inv-loop μ-loop
-add-total c = omega (arith, c .before .before .before .before .before .before .before .before .before .before .pre .few)
+add-total c = omega (arith, c .before .before .before .loop .inv .2, c .before .before .loop-test .taken, c .count-event .ensures .1, c .before .before .before .before .before .before .before .before .before .before .before .before .pre .few)
 
 add-i : tie.Need-add-i Inv-loop μ-loop
 add-i c = omega arith
@@ -48,21 +63,17 @@ loop-less : tie.Need-loop-less Inv-loop μ-loop
 loop-less c = omega arith
 
 loop-again : tie.Need-loop-again Inv-loop μ-loop
-loop-again c =
-    let at-loop = c .before .before .before .loop in
-    let args = c .before .before .before .before .before .before .before .before .before .before .args in (
-      omega arith,
-      omega (arith, at-loop .inv .1, c .count-event .ensures .0, sum-next (λ k. reachedBy (args .g) (args .threshold) (getD (args .from-offsets .now) k 0) (args .offsets .now)) (at-loop .i)),
-      omega (arith, at-loop .inv .2, c .count-event .ensures .1),
-    )
+loop-again c = (
+  omega arith,
+  omega (arith, c .before .before .before .loop .inv .1, c .count-event .ensures .0, sum-next (λ k. reachedBy (c .before .before .before .before .before .before .before .before .before .before .before .before .args .g) (c .before .before .before .before .before .before .before .before .before .before .before .before .args .threshold) (getD (c .before .before .before .before .before .before .before .before .before .before .before .before .args .from-offsets .now) k 0) (c .before .before .before .before .before .before .before .before .before .before .before .before .args .offsets .now)) (c .before .before .before .loop .i)),
+  omega (arith, c .before .before .before .loop .inv .2, c .count-event .ensures .1),
+)
 
-returns-2 : tie.Need-returns-2 Inv-loop μ-loop
+returns-3 : tie.Need-returns-3 Inv-loop μ-loop
 unfolding reachedPairs
-returns-2 c =
-    let start = c .before .before .before .before .before .before .before .before in
-    let at-loop = c .before .loop in
-    let end : at-loop .i ≡ length (start .args .from-offsets .now) = omega arith in
-    (rw (← end) (at-loop .inv .1), omega (arith, at-loop .inv .2, start .pre .few))
+returns-3 c =
+    let end : c .before .loop .i ≡ length (c .before .before .before .before .before .before .before .before .before .before .args .from-offsets .now) = omega arith in
+    (rw (← end) (c .before .loop .inv .1), omega (arith, c .before .loop .inv .2, c .before .before .before .before .before .before .before .before .before .before .pre .few))
 
 pub count-run-spec : {M : Type 1} → statement M
 count-run-spec =
@@ -72,6 +83,9 @@ count-run-spec =
     μ-loop
     is-beyond-requires
     returns
+    is-whole-requires
+    mul-result
+    returns-2
     loop-holds
     mul-count-event
     shared-slice-read-count-event
@@ -80,4 +94,4 @@ count-run-spec =
     add-i
     loop-less
     loop-again
-    returns-2)
+    returns-3)

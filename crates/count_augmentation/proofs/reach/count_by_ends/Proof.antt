@@ -1,4 +1,5 @@
 -- Nothing, all, or the first and the last places, whose overlap is counted once.
+use mathlib.Core.Bool.{false}
 use mathlib.Core.Path.{_≡_, ap, _∙_}
 use Prim.Native.Nat.{ℕ, suc, _-_}
 use native.Mathlib.Numerals.{add-one}
@@ -11,10 +12,10 @@ returns : tie.Need-returns
 returns c = nothing-reached (c .before .before .before .before .before .args .size) _ _ _ _ _ (c .before .if1 .taken) (c .if2 .taken)
 
 returns-2 : tie.Need-returns-2
-returns-2 c = all-from-first (c .before .before .before .before .before .args .size) _ (c .before .before .before .before .before .pre .on-edge) (c .before .before .before .before .before .args .to-first) (c .before .before .before .before .before .args .to-second) _ _ (c .if3 .taken)
+returns-2 c = all-from-first (c .before .before .before .before .before .args .size) _ (c .before .before .before .before .before .pre .on-edge) (c .before .before .before .before .before .args .to-first) (c .before .before .before .before .before .args .to-second) false _ _ (c .if3 .taken)
 
 returns-3 : tie.Need-returns-3
-returns-3 c = all-from-second (c .before .before .before .before .before .before .args .size) _ (c .before .before .before .before .before .before .pre .on-edge) (c .before .before .before .before .before .before .args .to-first) (c .before .before .before .before .before .before .args .to-second) _ _ (c .if4 .taken)
+returns-3 c = all-from-second (c .before .before .before .before .before .before .args .size) _ (c .before .before .before .before .before .before .pre .on-edge) (c .before .before .before .before .before .before .args .to-first) (c .before .before .before .before .before .before .args .to-second) false _ _ (c .if4 .taken)
 
 count-below-requires : tie.Need-count-below-requires
 count-below-requires c κs = look-first _ _ _ _ (c .before .before .before .before .before .before .pre)
