@@ -1,8 +1,8 @@
 -- What the functions that make the stored numbers and look them up keep: cited by inner functions alone.
 use mathlib.Core.List.{List}
 use mathlib.Core.Path.{_≡_}
-use Prim.Native.Nat.{ℕ, _≤_, _<_}
-use lib.Dec.{leb}
+use Prim.Native.Nat.{ℕ, zero, suc, _≤_, _<_}
+use lib.Dec.{leb, ltb}
 use lib.ListN.{length, getD}
 use Rattle.model.specs.Counting.{countIf}
 use Rattle.model.specs.Limits.{maxEvents}
@@ -34,6 +34,15 @@ pub record Storable (xs near : List ℕ) : Type 0 where
 pub record NumbersStored (p : ℕ) (xs near-first near-second : List ℕ) : Type 0 where
   pub first-at : (k : ℕ) → k < length xs → getD near-first k 0 ≡ noFarther p at-first xs (getD xs k 0)
   pub second-at : (k : ℕ) → k < length xs → getD near-second k 0 ≡ noFarther p at-second xs (getD xs k 0)
+
+-- the number stored with the event before a place, 0 before the first
+unfoldable pub storedBefore : List ℕ → ℕ → ℕ
+storedBefore near zero = 0
+storedBefore near (suc k) = getD near k 0
+
+-- the place at which rising offsets are parted at a limit: so many are below it
+unfoldable pub placeOf : List ℕ → ℕ → ℕ
+placeOf xs limit = countIf (λ y. ltb y limit) xs
 
 -- a place parts rising offsets at a limit
 pub record Parted (xs : List ℕ) (limit place : ℕ) : Type 0 where

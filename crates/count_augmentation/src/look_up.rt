@@ -1,10 +1,7 @@
 // The stored numbers looked up by binary search.
 ghost use mathlib.Core.Path.{_≡_};
-ghost use Prim.Native.Nat.{ℕ, _<_};
-ghost use lib.Dec.{leb, ltb};
 ghost use lib.ListN.{length, getD};
-ghost use Rattle.model.specs.Counting.{countIf};
-ghost use Rattle.count_augmentation.specs.Storing.{Rising, atMost, atLeast, Parted};
+ghost use Rattle.count_augmentation.specs.Storing.{Rising, Parted, storedBefore, placeOf};
 
 // The first place whose offset is not below a limit, or the length.
 fn place_of(offsets: &[u32], limit: u64) -> usize
@@ -24,11 +21,10 @@ fn place_of(offsets: &[u32], limit: u64) -> usize
     low
 }
 
-// How many offsets are below a limit: what is stored with the last of them for the first end.
+// What is stored for the first end with the last offset below a limit, 0 if there is none: read, whatever the list holds.
 pub(crate) fn count_below(offsets: &[u32], near_first: &[u32], limit: u64) -> u32
     requires { ⌜ Rising (now offsets) × (length (now «near_first») ≡ length (now offsets)) ⌝ }
-    requires { ⌜ ((k : ℕ) → k < length (now offsets) → getD (now «near_first») k 0 ≡ atMost (now offsets) (getD (now offsets) k 0)) ⌝ }
-    ensures { λ r. ⌜ r ≡ countIf (λ y. ltb y limit) (now (offsets .entry)) ⌝ }
+    ensures { λ r. ⌜ r ≡ storedBefore (now («near_first» .entry)) (placeOf (now (offsets .entry)) limit) ⌝ }
 {
     let place = place_of(offsets, limit);
     if place == 0 {
@@ -37,11 +33,10 @@ pub(crate) fn count_below(offsets: &[u32], near_first: &[u32], limit: u64) -> u3
     near_first[place - 1]
 }
 
-// How many offsets are not below a limit: what is stored with the first of them for the second end.
+// What is stored for the second end with the first offset not below a limit, 0 if there is none: read, whatever the list holds.
 pub(crate) fn count_from(offsets: &[u32], near_second: &[u32], limit: u64) -> u32
     requires { ⌜ Rising (now offsets) × (length (now «near_second») ≡ length (now offsets)) ⌝ }
-    requires { ⌜ ((k : ℕ) → k < length (now offsets) → getD (now «near_second») k 0 ≡ atLeast (now offsets) (getD (now offsets) k 0)) ⌝ }
-    ensures { λ r. ⌜ r ≡ countIf (λ y. leb limit y) (now (offsets .entry)) ⌝ }
+    ensures { λ r. ⌜ r ≡ getD (now («near_second» .entry)) (placeOf (now (offsets .entry)) limit) 0 ⌝ }
 {
     let place = place_of(offsets, limit);
     if place == offsets.len() {

@@ -12,7 +12,7 @@ use Rattle.model.proofs.Laws.Counting.{count-below-list, count-below-cong}
 use Rattle.model.specs.Counting.{one-if, countIf}
 use Rattle.model.specs.Location.{at-first, at-second, gap}
 use Rattle.count_augmentation.specs.Augmented.{noFarther}
-use Rattle.count_augmentation.specs.Storing.{Rising, atMost, atLeast, OnEdge, NumbersStored, Parted}
+use Rattle.count_augmentation.specs.Storing.{Rising, atMost, atLeast, OnEdge, NumbersStored, Parted, storedBefore, placeOf}
 
 -- a test that holds before a place and fails from it on counts the place
 pub count-before : (test : ℕ → Bool) (xs : List ℕ) (place : ℕ) → place ≤ length xs → ((k : ℕ) → k < place → test (getD xs k 0) ≡ true) → ((k : ℕ) → place ≤ k → k < length xs → test (getD xs k 0) ≡ false) → countIf test xs ≡ place
@@ -34,6 +34,37 @@ count-not test (x ∷ xs) = go (test x) (count-not test xs)
     go : (b : Bool) → countIf (λ x. not (test x)) xs + countIf test xs ≡ length xs → (one-if (not b) + countIf (λ x. not (test x)) xs) + (one-if b + countIf test xs) ≡ suc (length xs)
     go true e = omega arith
     go false e = omega arith
+
+-- the place that parts offsets at a limit is their place
+pub place-is : (xs : List ℕ) (limit place : ℕ) → Parted xs limit place → placeOf xs limit ≡ place
+unfolding placeOf
+place-is xs limit place parted =
+    count-before _ xs place (parted .within) (λ k l. lt-ltb _ _ (parted .before k l)) (λ k l m. le-ltb _ _ (parted .after k l m))
+
+-- nothing stands past the end
+past-end : (l : List ℕ) (k : ℕ) → length l ≤ k → getD l k 0 ≡ 0
+past-end [] k h = refl
+past-end (x ∷ l) zero h = absurd (omega arith)
+past-end (x ∷ l) (suc k) h = past-end l k (omega arith)
+
+-- what is read there
+pub before-first : (xs near : List ℕ) (limit place : ℕ) → Parted xs limit place → place ≡ 0 → 0 ≡ storedBefore near (placeOf xs limit)
+unfolding storedBefore
+before-first xs near limit place parted e = rw (place-is xs limit place parted, e)
+
+pub before-later : (xs near : List ℕ) (limit place : ℕ) → Parted xs limit place → 1 ≤ place → getD near (place - 1) 0 ≡ storedBefore near (placeOf xs limit)
+before-later xs near limit place parted h = rw (place-is xs limit place parted) (go place h)
+  where
+    go : (n : ℕ) → 1 ≤ n → getD near (n - 1) 0 ≡ storedBefore near n
+    go zero h = absurd (omega arith)
+    go (suc n) h = unfold storedBefore in ap (λ (k : ℕ). getD near k 0) {x = suc n - 1} {y = n} (omega arith)
+
+pub behind-last : (xs near : List ℕ) (limit place : ℕ) → Parted xs limit place → place ≡ length xs → length near ≡ length xs → 0 ≡ getD near (placeOf xs limit) 0
+behind-last xs near limit place parted e long =
+    sym (ap (λ (k : ℕ). getD near k 0) (place-is xs limit place parted) ∙ past-end near place (omega arith))
+
+pub at-place : (xs near : List ℕ) (limit place : ℕ) → Parted xs limit place → getD near place 0 ≡ getD near (placeOf xs limit) 0
+at-place xs near limit place parted = ap (λ (k : ℕ). getD near k 0) (sym (place-is xs limit place parted))
 
 -- a test that fails before a place and holds from it on counts what is left
 pub count-after : (test : ℕ → Bool) (xs : List ℕ) (place : ℕ) → place ≤ length xs → ((k : ℕ) → k < place → test (getD xs k 0) ≡ false) → ((k : ℕ) → place ≤ k → k < length xs → test (getD xs k 0) ≡ true) → countIf test xs ≡ length xs - place
@@ -121,3 +152,24 @@ module _ (p : ℕ) (xs near-first near-second : List ℕ) (on-edge : OnEdge p xs
 
   pub stored-second : (k : ℕ) → k < length xs → getD near-second k 0 ≡ atLeast xs (getD xs k 0)
   stored-second k h = stored .second-at k h ∙ no-farther-second p xs on-edge _ (on-edge .on k h)
+
+  -- read from right numbers, they are how many offsets are below a limit and how many are not
+  module _ (rising : Rising xs) (limit place : ℕ) (parted : Parted xs limit place) where
+    pub read-below : storedBefore near-first (placeOf xs limit) ≡ countIf (λ y. ltb y limit) xs
+    read-below = rw (place-is xs limit place parted) (go place refl)
+      where
+        later : (n : ℕ) → suc n ≡ place → getD near-first n 0 ≡ countIf (λ y. ltb y limit) xs
+        later n e =
+            let last : n ≡ pred place = omega arith in
+            stored-first n (omega (arith, parted .within)) ∙ ap (λ (k : ℕ). atMost xs (getD xs k 0)) last ∙ below-stored xs rising limit place parted (omega arith)
+
+        go : (n : ℕ) → n ≡ place → storedBefore near-first n ≡ countIf (λ y. ltb y limit) xs
+        go zero e = unfold storedBefore in sym (none-below xs rising limit place parted (sym e))
+        go (suc n) e = unfold storedBefore in later n e
+
+    pub read-from : length near-second ≡ length xs → getD near-second (placeOf xs limit) 0 ≡ countIf (λ y. leb limit y) xs
+    read-from long = rw (place-is xs limit place parted) (go (decLe (length xs) place))
+      where
+        go : Dec (length xs ≤ place) → getD near-second place 0 ≡ countIf (λ y. leb limit y) xs
+        go (yes h) = past-end near-second place (omega arith) ∙ sym (none-from xs rising limit place parted (omega (arith, parted .within)))
+        go (no h) = stored-second place (omega arith) ∙ from-stored xs rising limit place parted (omega arith)

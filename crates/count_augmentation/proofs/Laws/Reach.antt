@@ -5,7 +5,7 @@ use mathlib.Core.Path.{_≡_, refl, sym, ap₂, _∙_}
 use Prim.Native.Nat.{ℕ, suc, _+_, _-_, _≤_, _<_, min, max}
 use native.Mathlib.Decide.{decLe, decLt}
 use native.Mathlib.Omega.{arith}
-use borrow.Author.Tests.{le-leb, lt-leb, lt-ltb, le-ltb, leb-true, leb-false, ltb-true, not-true}
+use borrow.Author.Tests.{le-leb, lt-leb, lt-ltb, le-ltb, leb-true, leb-false, ltb-true, ltb-false, not-true}
 use lib.Dec.{leb, ltb}
 use lib.ListN.{length, getD}
 use Rattle.model.proofs.Laws.Counting.{count-mono, count-at-most}
@@ -13,8 +13,8 @@ use Rattle.model.proofs.Laws.Cover.{cover-list, first-places, last-places}
 use Rattle.model.specs.Counting.{countIf}
 use Rattle.model.specs.Distance.{difference}
 use Rattle.count_augmentation.specs.Reach.{isReached, reached, together, Run}
-use Rattle.count_augmentation.specs.Storing.{Rising, OnEdge, atMost, atLeast}
-use Rattle.count_augmentation.proofs.Laws.Places.{count-before, count-not, stored-first, stored-second}
+use Rattle.count_augmentation.specs.Storing.{Rising, OnEdge, Parted, storedBefore, placeOf}
+use Rattle.count_augmentation.proofs.Laws.Places.{count-before, count-not, read-below, read-from}
 
 -- how many offsets are below a limit, and how many are not
 abbrev pub below-limit : List ℕ → ℕ → ℕ
@@ -135,10 +135,24 @@ module _ (q : ℕ) (ys : List ℕ) (rising : Rising ys) (on-edge : OnEdge q ys) 
       window-opens (below-first ys rising f) second-last
       (λ k h. in-window x (getD ys k 0) t ∙ ap₂ _&&_ (from-last ys rising (x - t) k h) (below-first ys rising (x + t + 1) k h)))
 
--- what the look-ups ask of a run
+-- what the look-ups ask of a run, and what they read of its stored numbers
 module _ (q : ℕ) (ys near-first near-second : List ℕ) (run : Run q ys near-first near-second) where
-  pub look-first : (Rising ys × (length near-first ≡ length ys)) × ((k : ℕ) → k < length ys → getD near-first k 0 ≡ atMost ys (getD ys k 0))
-  look-first = ((run .rising, run .first-length), stored-first q ys near-first near-second (run .on-edge) (run .stored))
+  pub look-first : Rising ys × (length near-first ≡ length ys)
+  look-first = (run .rising, run .first-length)
 
-  pub look-second : (Rising ys × (length near-second ≡ length ys)) × ((k : ℕ) → k < length ys → getD near-second k 0 ≡ atLeast ys (getD ys k 0))
-  look-second = ((run .rising, run .second-length), stored-second q ys near-first near-second (run .on-edge) (run .stored))
+  pub look-second : Rising ys × (length near-second ≡ length ys)
+  look-second = (run .rising, run .second-length)
+
+  parted : (limit : ℕ) → Parted ys limit (below-limit ys limit)
+  parted limit =
+      record {
+        within = count-at-most _ ys;
+        before = λ k h. ltb-true (getD ys k 0) limit (below-first ys (run .rising) limit k (omega (arith, count-at-most (λ y. ltb y limit) ys)) ∙ lt-ltb k _ h);
+        after = λ k h l. ltb-false (getD ys k 0) limit (below-first ys (run .rising) limit k l ∙ le-ltb k _ h);
+      }
+
+  pub below-read : (limit : ℕ) → storedBefore near-first (placeOf ys limit) ≡ below-limit ys limit
+  below-read limit = read-below q ys near-first near-second (run .on-edge) (run .stored) (run .rising) limit _ (parted limit)
+
+  pub from-read : (limit : ℕ) → getD near-second (placeOf ys limit) 0 ≡ from-limit ys limit
+  from-read limit = read-from q ys near-first near-second (run .on-edge) (run .stored) (run .rising) limit _ (parted limit) (run .second-length)

@@ -4,7 +4,7 @@ use Prim.Native.Nat.{ℕ, suc, _+_, _-_}
 use native.Mathlib.Numerals.{add-one}
 use lib.ListN.{length}
 use Rattle.count_augmentation.specs.Reach.{together}
-use Rattle.count_augmentation.proofs.Laws.Reach.{below-limit, from-limit, reached-around, look-first, look-second}
+use Rattle.count_augmentation.proofs.Laws.Reach.{below-limit, from-limit, reached-around, look-first, look-second, below-read, from-read}
 use borrow.Author.Needs.{needs}
 use Rattle.count_augmentation.proofs.reach.count_around.Statement.{statement}
 use Rattle.count_augmentation.proofs.reach.count_around.Tie as tie
@@ -65,11 +65,11 @@ returns c =
     let x = start .args .offset in
     let at-limit = c .before .before .before .before .before .before in
     let limit : at-limit .less .result ≡ suc q - s = at-limit .less .ensures ∙ ap (λ (n : ℕ). n - s) (add-one q) in
-    let first : at-limit .before .count-below .result ≡ below-limit ys f = at-limit .before .count-below .ensures in
-    let last : c .before .before .before .before .before .count-from .result ≡ from-limit ys (suc q - s) = c .before .before .before .before .before .count-from .ensures ∙ ap (from-limit ys) limit in
-    let from-window : c .before .before .before .count-from2 .result ≡ from-limit ys (x - t) = c .before .before .before .count-from2 .ensures ∙ ap (from-limit ys) (c .before .before .before .before .less2 .ensures) in
+    let first : at-limit .before .count-below .result ≡ below-limit ys f = at-limit .before .count-below .ensures ∙ below-read q ys _ _ (start .pre) f in
+    let last : c .before .before .before .before .before .count-from .result ≡ from-limit ys (suc q - s) = c .before .before .before .before .before .count-from .ensures ∙ from-read q ys _ _ (start .pre) _ ∙ ap (from-limit ys) limit in
+    let from-window : c .before .before .before .count-from2 .result ≡ from-limit ys (x - t) = c .before .before .before .count-from2 .ensures ∙ from-read q ys _ _ (start .pre) _ ∙ ap (from-limit ys) (c .before .before .before .before .less2 .ensures) in
     let below : c .before .less3 .result ≡ length ys - from-limit ys (x - t) = c .before .less3 .ensures ∙ ap (λ (n : ℕ). length ys - n) from-window in
-    let upto : c .before .before .count-below2 .result ≡ below-limit ys (x + t + 1) = c .before .before .count-below2 .ensures in
+    let upto : c .before .before .count-below2 .result ≡ below-limit ys (x + t + 1) = c .before .before .count-below2 .ensures ∙ below-read q ys _ _ (start .pre) (x + t + 1) in
     c .union .ensures
     ∙ ap₂ (λ (m n : ℕ). together (length ys) m n (c .before .less3 .result) (c .before .before .count-below2 .result)) first last
     ∙ ap₂ (λ (m n : ℕ). together (length ys) (below-limit ys f) (from-limit ys (suc q - s)) m n) below upto

@@ -3,7 +3,7 @@ use mathlib.Core.Bool.{false}
 use mathlib.Core.Path.{_≡_, ap, _∙_}
 use Prim.Native.Nat.{ℕ, suc, _-_}
 use native.Mathlib.Numerals.{add-one}
-use Rattle.count_augmentation.proofs.Laws.Reach.{from-limit, nothing-reached, all-from-first, all-from-second, ends-summed, look-first, look-second}
+use Rattle.count_augmentation.proofs.Laws.Reach.{from-limit, nothing-reached, all-from-first, all-from-second, ends-summed, look-first, look-second, below-read, from-read}
 use borrow.Author.Needs.{needs}
 use Rattle.count_augmentation.proofs.reach.count_by_ends.Statement.{statement}
 use Rattle.count_augmentation.proofs.reach.count_by_ends.Tie as tie
@@ -47,7 +47,7 @@ returns-4 c =
     let q = c .before .before .before .before .before .before .before .before .before .before .args .size in
     let s = c .before .before .before .before .before .before .before .before .before .before .args .to-second in
     let limit : c .before .before .less .result ≡ suc q - s = c .before .before .less .ensures ∙ ap (λ (n : ℕ). n - s) (add-one q) in
-    c .lesser .ensures ∙ ends-summed q ys (c .before .before .before .before .before .before .before .before .before .before .pre .rising) (c .before .before .before .before .before .before .before .before .before .before .pre .on-edge) (c .before .before .before .before .before .before .before .before .before .before .args .to-first) s _ _ _ _ (c .before .before .before .count-below .ensures) (c .before .count-from .ensures ∙ ap (from-limit ys) limit)
+    c .lesser .ensures ∙ ends-summed q ys (c .before .before .before .before .before .before .before .before .before .before .pre .rising) (c .before .before .before .before .before .before .before .before .before .before .pre .on-edge) (c .before .before .before .before .before .before .before .before .before .before .args .to-first) s _ _ _ _ (c .before .before .before .count-below .ensures ∙ below-read q ys _ _ (c .before .before .before .before .before .before .before .before .before .before .pre) _) (c .before .count-from .ensures ∙ from-read q ys _ _ (c .before .before .before .before .before .before .before .before .before .before .pre) _ ∙ ap (from-limit ys) limit)
 
 pub count-by-ends-spec : {M : Type 1} → statement M
 count-by-ends-spec =
