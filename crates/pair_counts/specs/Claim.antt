@@ -1,14 +1,14 @@
 -- Demand 3 as one promise: three methods, every set and threshold, and the cursors of the set, threshold and two edges asked about.
-use mathlib.Core.Bool.{Bool, true, cond, _&&_, _||_}
+use mathlib.Core.Bool.{cond, _&&_, _||_}
 use mathlib.Core.List.{List, map}
 use mathlib.Core.Path.{_≡_}
-use Prim.Native.Nat.{ℕ, _+_, _-_, _*_, _≤_, _<_, min}
+use Prim.Native.Nat.{ℕ, suc, _+_, _*_, _≤_, _<_, min}
 use lib.Dec.{eqb, leb, ltb}
-use lib.ListN.{length, getD, take, drop}
+use lib.ListN.{length, getD}
 use Rattle.model.specs.Answer.{written}
 use Rattle.model.specs.Checks.{sameLength, roomCheck, loneEdgeCheck}
 use Rattle.model.specs.Counting.{countIf}
-use Rattle.model.specs.Events.{events, having, greatestSet, setCount}
+use Rattle.model.specs.Events.{events, having, setCount}
 use Rattle.model.specs.Limits.{maxSet}
 use Rattle.model.specs.Network.{Network}
 use Rattle.model.specs.PairCount.{CountsJoined}
@@ -56,8 +56,9 @@ setOffsets sets es xs s = map (λ e. e .offset) (laidOutSet sets (events es xs) 
 pub record AllJoined (net : Network) (sets es xs ts counts : List ℕ) : Type 0 where
   pub joined : (u k : ℕ) → u < setCount sets → k < length ts → CountsJoined net (having u sets (events es xs)) (getD ts k 0) (getD counts (u * length ts + k) 0)
 
--- the promise. The lists: three of counts, one to a method; the positions of the cursors of set s at threshold t on edges e and f,
--- from distances bounded by the greatest threshold; and their moves
+-- the promise. The lists: three of counts, one to a method; the positions of the cursors of set s at threshold t, any number, on
+-- edges e and f, from distances bounded by the greatest of the thresholds; and their moves. A position or a sum of moves stands in
+-- its list as one more, and 0 stands for 'no cursor'
 module _ (net : Network) (sets es xs ts : List ℕ) (s t e f : ℕ) where
   pub record PairCountsAnswered (ranged augmented shared ps ms : List ℕ) (r : Check) (ranged′ augmented′ shared′ ps′ ms′ : List ℕ) : Type 0 where
     pub verdict : r ≡ claimCheck net sets es xs ts s e f (min (length ranged) (min (length augmented) (length shared))) ps ms
@@ -69,30 +70,5 @@ module _ (net : Network) (sets es xs ts : List ℕ) (s t e f : ℕ) where
     pub range-joined : r ≡ Accepted → AllJoined net sets es xs ts ranged′
     pub augmentation-joined : r ≡ Accepted → AllJoined net sets es xs ts augmented′
     pub sharing-joined : r ≡ Accepted → AllJoined net sets es xs ts shared′
+    pub few-moves : r ≡ Accepted → (c : ℕ) → c < 6 → getD ms′ c 0 ≤ suc (length (having f (setEdges sets es xs s) (setOffsets sets es xs s)))
     pub one-way : r ≡ Accepted → MovesOneWay net (setEdges sets es xs s) (setOffsets sets es xs s) e f t (greatest ts)
-
--- where there is such a set, its first run and that run's first place are in the lists
-pub record BoundAsked (setRuns bounds : List ℕ) (exists : Bool) (s : ℕ) : Type 0 where
-  pub in-runs : exists ≡ true → s < length setRuns
-  pub in-bounds : exists ≡ true → getD setRuns s 0 < length bounds
-
--- where the runs of set s begin among the laid-out events, if there is such a set
-unfoldable pub boundOf : List ℕ → List ℕ → Bool → ℕ → ℕ
-boundOf setRuns bounds exists s = cond exists (getD bounds (getD setRuns s 0) 0) 0
-
--- the set's part of a laid-out list
-unfoldable pub setPart : List ℕ → List ℕ → List ℕ → ℕ → List ℕ → List ℕ
-setPart sets setRuns bounds s l =
-    let from = boundOf setRuns bounds (leb s (greatestSet sets)) s in
-    let to = boundOf setRuns bounds (leb s (greatestSet sets)) (s + 1) in
-    take (to - from) (drop from l)
-
--- the set's part lies within the laid-out lists, and there is a threshold
-pub record SweepAsked (sets ts edges offsets bounds setRuns : List ℕ) (s : ℕ) : Type 0 where
-  pub thresholds : 1 ≤ length ts
-  pub small : s ≤ maxSet
-  pub begin : BoundAsked setRuns bounds (leb s (greatestSet sets)) s
-  pub end : BoundAsked setRuns bounds (leb s (greatestSet sets)) (s + 1)
-  pub in-order : boundOf setRuns bounds (leb s (greatestSet sets)) s ≤ boundOf setRuns bounds (leb s (greatestSet sets)) (s + 1)
-  pub in-edges : boundOf setRuns bounds (leb s (greatestSet sets)) (s + 1) ≤ length edges
-  pub in-offsets : boundOf setRuns bounds (leb s (greatestSet sets)) (s + 1) ≤ length offsets

@@ -1,2 +1,3 @@
 -- Demand 3 as one promise.
 pub mod Claim
+pub mod Asked

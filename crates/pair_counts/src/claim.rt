@@ -3,7 +3,8 @@ ghost use mathlib.Core.Path.{_≡_};
 ghost use Prim.Native.Nat.{_<_};
 ghost use lib.ListN.{length, getD};
 ghost use Rattle.model.specs.Network.{network};
-ghost use Rattle.pair_counts.specs.Claim.{BoundAsked, SweepAsked, PairCountsAnswered, boundOf, setPart};
+ghost use Rattle.pair_counts.specs.Asked.{BoundAsked, SweepAsked, Counted, boundOf, setPart};
+ghost use Rattle.pair_counts.specs.Claim.{PairCountsAnswered};
 ghost use Rattle.neighbor_sharing.specs.Answers.{CursorsAnswered};
 ghost use Rattle.prepare.specs.Prepared.{greatest};
 use crate::verdict::check_asked;
@@ -30,6 +31,59 @@ fn set_bound(set_runs: &[u32], bounds: &[u32], exists: bool, s: usize) -> usize
         return 0;
     }
     place(bounds, place(set_runs, s))
+}
+
+// Each method into its own list.
+fn count_each(
+    nodes: u32,
+    firsts: &[u32],
+    seconds: &[u32],
+    lengths: &[u32],
+    sets: &[u32],
+    edges: &[u32],
+    offsets: &[u32],
+    thresholds: &[u32],
+    ranged: &mut [u32],
+    augmented: &mut [u32],
+    shared: &mut [u32],
+)
+    ensures { λ _. ⌜ Counted (network nodes (now (firsts .entry)) (now (seconds .entry)) (now (lengths .entry))) (now (sets .entry)) (now (edges .entry)) (now (offsets .entry)) (now (thresholds .entry)) (now (ranged .entry)) (now (ranged .exit)) ⌝ }
+    ensures { λ _. ⌜ Counted (network nodes (now (firsts .entry)) (now (seconds .entry)) (now (lengths .entry))) (now (sets .entry)) (now (edges .entry)) (now (offsets .entry)) (now (thresholds .entry)) (now (augmented .entry)) (now (augmented .exit)) ⌝ }
+    ensures { λ _. ⌜ Counted (network nodes (now (firsts .entry)) (now (seconds .entry)) (now (lengths .entry))) (now (sets .entry)) (now (edges .entry)) (now (offsets .entry)) (now (thresholds .entry)) (now (shared .entry)) (now (shared .exit)) ⌝ }
+{
+    range_query::counts(
+        nodes,
+        firsts,
+        seconds,
+        lengths,
+        sets,
+        edges,
+        offsets,
+        thresholds,
+        ranged,
+    );
+    count_augmentation::counts(
+        nodes,
+        firsts,
+        seconds,
+        lengths,
+        sets,
+        edges,
+        offsets,
+        thresholds,
+        augmented,
+    );
+    neighbor_sharing::counts(
+        nodes,
+        firsts,
+        seconds,
+        lengths,
+        sets,
+        edges,
+        offsets,
+        thresholds,
+        shared,
+    );
 }
 
 // The cursors of the set asked about, from what was prepared.
@@ -75,7 +129,7 @@ fn sweep_asked(
     )
 }
 
-// The same with working storage lent.
+// The public function with working storage lent.
 fn pair_counts_with(
     nodes: u32,
     firsts: &[u32],
@@ -128,7 +182,7 @@ fn pair_counts_with(
     if let Check::Refused(_, _) = verdict {
         return verdict;
     }
-    range_query::counts(
+    count_each(
         nodes,
         firsts,
         seconds,
@@ -138,27 +192,7 @@ fn pair_counts_with(
         offsets,
         thresholds,
         by_range,
-    );
-    count_augmentation::counts(
-        nodes,
-        firsts,
-        seconds,
-        lengths,
-        sets,
-        edges,
-        offsets,
-        thresholds,
         by_augmentation,
-    );
-    neighbor_sharing::counts(
-        nodes,
-        firsts,
-        seconds,
-        lengths,
-        sets,
-        edges,
-        offsets,
-        thresholds,
         by_sharing,
     );
     sweep_asked(

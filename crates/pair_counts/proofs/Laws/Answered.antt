@@ -1,24 +1,27 @@
 -- The claim put together from what its parts promise.
-use mathlib.Core.Bool.{Bool, true}
+use mathlib.Core.Bool.{Bool, true, false}
 use mathlib.Core.List.{List}
 use mathlib.Core.Path.{_≡_, refl, sym, ap, ap₂, _∙_}
-use Prim.Native.Nat.{ℕ, suc, _+_, _-_, _*_, _≤_, _<_, min}
+use Prim.Native.Nat.{ℕ, zero, suc, _+_, _-_, _*_, _≤_, _<_, min}
 use native.Mathlib.Numerals.{add-one}
 use native.Mathlib.Omega.{arith}
 use borrow.Author.Tests.{leb-true}
 use lib.Dec.{leb}
-use lib.ListN.{length, getD, take, drop}
+use lib.ListN.{length, getD, List·getD-append}
 use Rattle.model.proofs.Laws.Answer.{written-refused}
 use Rattle.model.specs.Answer.{written}
 use Rattle.model.specs.Checks.{loneEdgeCheck}
-use Rattle.model.specs.Events.{events, greatestSet, setCount}
+use Rattle.model.specs.Distance.{Distance, metres, none}
+use Rattle.model.specs.Events.{events, having, greatestSet, setCount}
 use Rattle.model.specs.Limits.{maxSet, maxEvents}
+use Rattle.model.specs.Location.{at-first, at-second}
 use Rattle.model.specs.Network.{Network}
 use Rattle.model.specs.declared.check.Check.{Check}
 use Rattle.model.specs.declared.check.Check.the-variants.{Accepted, Refused}
 use Rattle.model.proofs.Laws.Refusal.{not-accepted}
 use Rattle.neighbor_sharing.proofs.Laws.Claim.{moves-one-way}
-use Rattle.neighbor_sharing.specs.Answers.{cursorsCheck, cursorPositions, cursorMoves, CursorsAnswered}
+use Rattle.neighbor_sharing.specs.Answers.{marked, markedIf, routeMoves, cursorsCheck, cursorPositions, cursorMoves, CursorsAnswered}
+use Rattle.neighbor_sharing.specs.OneWay.{MovesOneWay}
 use Rattle.prepare.proofs.Laws.InRuns.{set-runs-rise}
 use Rattle.prepare.proofs.Laws.Verdict.{CountsAccepted, counts-accepted}
 use Rattle.prepare.specs.Counts.{countsCheck, countTable, CountsAnswered}
@@ -27,7 +30,40 @@ use Rattle.pair_counts.proofs.Laws.AskedSet.{set-bounds, edges-part, of
 use Rattle.pair_counts.proofs.Laws.Entries.{entry-joined}
 use Rattle.pair_counts.proofs.Laws.Taken.{cursors-accept}
 use Rattle.pair_counts.proofs.Laws.Verdict.{lowest-accepted, asked-accepted, room-accepted, roomier}
-use Rattle.pair_counts.specs.Claim.{lowest, onEdge, cursorRoom, askedCheck, claimCheck, setEdges, setOffsets, boundOf, setPart, BoundAsked, SweepAsked, AllJoined, PairCountsAnswered}
+use Rattle.pair_counts.specs.Asked.{boundOf, setPart, BoundAsked, SweepAsked, Counted}
+use Rattle.pair_counts.specs.Claim.{lowest, onEdge, cursorRoom, askedCheck, claimCheck, setEdges, setOffsets, AllJoined, PairCountsAnswered}
+
+-- a cursor's number as it is handed out
+marked-few : (d : Distance) {n m : ℕ} → n ≤ m → marked d n ≤ suc m
+unfolding marked
+marked-few none h = omega arith
+marked-few (metres k) h = omega arith
+
+marked-if-few : (b : Bool) {n m : ℕ} → n ≤ m → markedIf b n ≤ suc m
+unfolding markedIf
+marked-if-few true h = omega arith
+marked-if-few false h = omega arith
+
+-- the six sums of moves as they are handed out
+module _ {net : Network} {es xs : List ℕ} {e f t bound : ℕ} (one-way : MovesOneWay net es xs e f t bound) where
+  six-few : (c : ℕ) → c < 6 → getD (cursorMoves net es xs e f t bound) c 0 ≤ suc (length (having f es xs))
+  unfolding cursorMoves routeMoves
+  six-few zero h = marked-few _ (one-way .route-moves-few at-first at-first)
+  six-few (suc zero) h = marked-few _ (one-way .route-moves-few at-first at-second)
+  six-few (suc (suc zero)) h = marked-few _ (one-way .route-moves-few at-second at-first)
+  six-few (suc (suc (suc zero))) h = marked-few _ (one-way .route-moves-few at-second at-second)
+  six-few (suc (suc (suc (suc zero)))) h = marked-if-few _ (one-way .below-moves-few)
+  six-few (suc (suc (suc (suc (suc zero))))) h = marked-if-few _ (one-way .up-to-moves-few)
+  six-few (suc (suc (suc (suc (suc (suc c)))))) h = absurd (omega arith)
+
+  six-long : length (cursorMoves net es xs e f t bound) ≡ 6
+  unfolding cursorMoves
+  six-long = refl
+
+moves-few : {net : Network} {es xs : List ℕ} {e f t bound : ℕ} {verdict : Check} {ms′ : List ℕ} (ms : List ℕ) → verdict ≡ Accepted → ms′ ≡ written verdict (cursorMoves net es xs e f t bound) ms → MovesOneWay net es xs e f t bound → (c : ℕ) → c < 6 → getD ms′ c 0 ≤ suc (length (having f es xs))
+unfolding written
+moves-few {net} {es} {xs} {e} {f} {t} {bound} ms told is one-way c h =
+    rw (is, told, List·getD-append (cursorMoves net es xs e f t bound) _ 0 c (rw (six-long one-way) h)) (six-few one-way c h)
 
 -- the parts of the verdict
 pub record Verdicts (net : Network) (sets es xs ts : List ℕ) (s e f : ℕ) (ranged augmented shared ps ms edges offsets bounds setRuns table : List ℕ) (room : ℕ) (verdict : Check) : Type 0 where
@@ -89,6 +125,7 @@ module _ {net : Network} {sets es xs ts : List ℕ} {s e f : ℕ} {ranged augmen
         range-joined = λ ok. not-accepted (sym told ∙ ok);
         augmentation-joined = λ ok. not-accepted (sym told ∙ ok);
         sharing-joined = λ ok. not-accepted (sym told ∙ ok);
+        few-moves = λ ok. not-accepted (sym told ∙ ok);
         one-way = λ ok. not-accepted (sym told ∙ ok);
       }
 
@@ -161,14 +198,15 @@ module _ {net : Network} {sets es xs ts : List ℕ} {s e f : ℕ} {ps ms edges o
 
 -- on acceptance: the whole claim
 module _ {net : Network} {sets es xs ts : List ℕ} {s e f : ℕ} {ranged augmented shared ps ms edges offsets bounds setRuns table : List ℕ} {room : ℕ} {verdict : Check} (v : Verdicts net sets es xs ts s e f ranged augmented shared ps ms edges offsets bounds setRuns table room verdict) (told : verdict ≡ Accepted) where
-  pub accepted-claim : {t : ℕ} {r₁ r₂ r₃ r₄ : Check} {ranged′ augmented′ shared′ ps′ ms′ : List ℕ} → CountsAnswered net sets es xs ts ranged r₁ ranged′ → CountsAnswered net sets es xs ts augmented r₂ augmented′ → CountsAnswered net sets es xs ts shared r₃ shared′ → CursorsAnswered net (setPart sets setRuns bounds s edges) (setPart sets setRuns bounds s offsets) e f t (greatest ts) ps ms r₄ ps′ ms′ → PairCountsAnswered net sets es xs ts s t e f ranged augmented shared ps ms verdict ranged′ augmented′ shared′ ps′ ms′
+  pub accepted-claim : {t : ℕ} {r : Check} {ranged′ augmented′ shared′ ps′ ms′ : List ℕ} → Counted net sets es xs ts ranged ranged′ → Counted net sets es xs ts augmented augmented′ → Counted net sets es xs ts shared shared′ → CursorsAnswered net (setPart sets setRuns bounds s edges) (setPart sets setRuns bounds s offsets) e f t (greatest ts) ps ms r ps′ ms′ → PairCountsAnswered net sets es xs ts s t e f ranged augmented shared ps ms verdict ranged′ augmented′ shared′ ps′ ms′
   accepted-claim by-range by-augmentation by-sharing swept =
       let w = taken v told in
       let room-is = v .room-is in
-      let ranged-is = table-is w told (omega arith) by-range in
-      let augmented-is = table-is w told (omega arith) by-augmentation in
-      let shared-is = table-is w told (omega arith) by-sharing in
+      let ranged-is = table-is w told (omega arith) (by-range .answered) in
+      let augmented-is = table-is w told (omega arith) (by-augmentation .answered) in
+      let shared-is = table-is w told (omega arith) (by-sharing .answered) in
       let cursors = cursors-are w swept in
+      let one-way = moves-one-way net (setEdges sets es xs s) (setOffsets sets es xs s) e f _ (greatest ts) (set-in-order sets es xs s) in
       record {
         verdict = verdict-whole v;
         by-range = ranged-is;
@@ -179,5 +217,6 @@ module _ {net : Network} {sets es xs ts : List ℕ} {s e f : ℕ} {ranged augmen
         range-joined = joined-is w ranged ranged-is;
         augmentation-joined = joined-is w augmented augmented-is;
         sharing-joined = joined-is w shared shared-is;
-        one-way = λ ok. moves-one-way net (setEdges sets es xs s) (setOffsets sets es xs s) e f _ (greatest ts) (set-in-order sets es xs s);
+        few-moves = λ ok c h. moves-few ms told (moves-are w told cursors) one-way c h;
+        one-way = λ ok. one-way;
       }

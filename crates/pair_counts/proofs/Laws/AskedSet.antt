@@ -19,7 +19,8 @@ use Rattle.prepare.proofs.Laws.LaidEvents.{events-long, laid-is-event}
 use Rattle.prepare.proofs.Laws.RunEvents.{part-front, set-part, zipped}
 use Rattle.prepare.proofs.Laws.RunPairs.{part-of-length}
 use Rattle.prepare.specs.Prepared.{Prepared, laidOutSet, grouped, startOf}
-use Rattle.pair_counts.specs.Claim.{SweepAsked, boundOf, setPart, setEdges, setOffsets}
+use Rattle.pair_counts.specs.Asked.{SweepAsked, boundOf, setPart}
+use Rattle.pair_counts.specs.Claim.{setEdges, setOffsets}
 
 -- a part of what a list's elements are made into
 take-map : {A B : Type 0} (f : A → B) (n : ℕ) (l : List A) → take n (map f l) ≡ map f (take n l)

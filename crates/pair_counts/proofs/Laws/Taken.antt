@@ -28,7 +28,8 @@ use Rattle.prepare.proofs.Laws.InRuns.{in-order-at}
 use Rattle.prepare.proofs.Laws.LaidEvents.{laid-is-event}
 use Rattle.prepare.specs.Prepared.{Prepared, laidOutSet}
 use Rattle.pair_counts.proofs.Laws.AskedSet.{set-bounds, edges-part, offsets-part, set-events, set-in-order, set-same-length}
-use Rattle.pair_counts.specs.Claim.{onEdge, boundOf, setEdges, setOffsets}
+use Rattle.pair_counts.specs.Asked.{boundOf}
+use Rattle.pair_counts.specs.Claim.{onEdge, setEdges, setOffsets}
 
 -- events of a network within the limits meet none of 13 to 15, and in order not 17
 pub events-accept : (net : Network) (es xs : List ℕ) → AreEvents net es xs → eventValues net es xs ≡ Accepted
