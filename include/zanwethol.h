@@ -56,6 +56,19 @@ void kc_augmentation_counts(uint32_t nodes, const uint32_t *firsts, size_t first
                             size_t offsets_len, const uint32_t *thresholds, size_t thresholds_len, uint32_t *answers,
                             size_t answers_len, uint32_t *number, size_t *place);
 
+void kc_sharing_counts(uint32_t nodes, const uint32_t *firsts, size_t firsts_len, const uint32_t *seconds,
+                       size_t seconds_len, const uint32_t *lengths, size_t lengths_len, const uint32_t *sets,
+                       size_t sets_len, const uint32_t *legs, size_t legs_len, const uint32_t *offsets,
+                       size_t offsets_len, const uint32_t *thresholds, size_t thresholds_len, uint32_t *answers,
+                       size_t answers_len, uint32_t *number, size_t *place);
+
+/* The stored numbers of a laid-out set: with each report, how many on its leg lie no farther from the leg's first end, and
+   from its second end, itself and equals included. */
+void kc_augment(uint32_t nodes, const uint32_t *firsts, size_t firsts_len, const uint32_t *seconds, size_t seconds_len,
+                const uint32_t *lengths, size_t lengths_len, const uint32_t *legs, size_t legs_len,
+                const uint32_t *offsets, size_t offsets_len, uint32_t *near_first, size_t near_first_len,
+                uint32_t *near_second, size_t near_second_len, uint32_t *number, size_t *place);
+
 /* The six marks of two legs of a laid-out set at one threshold: by the routes from the first leg's first end to the
    second's first and second end, from its second end to both, and on one leg the reports below the own offset less the
    threshold and those not above it plus the threshold. positions holds the six lists one after the other, each with a

@@ -21,9 +21,10 @@ use reference::random::{self, NetworkInput, ReportInput, Rng};
 type Proved = fn(&NetworkInput, &ReportInput, &[u32], &mut [u32]) -> Result<(), Refusal>;
 
 /// Each proved method with its plain counterpart.
-const METHODS: [(Proved, Method); 2] = [
+const METHODS: [(Proved, Method); 3] = [
     (library::range_counts, Method::RangeQuery),
     (library::augmentation_counts, Method::CountAugmentation),
+    (library::sharing_counts, Method::NeighbourSharing),
 ];
 
 /// What a counting method takes.

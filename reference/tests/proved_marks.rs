@@ -1,6 +1,6 @@
-//! Positions and moves of the marks of the proved library against the plain
-//! ones, on random laid-out sets, good and damaged. Compiled only where KC_LIB
-//! names the library's folder.
+//! Stored numbers, and positions and moves of the marks, of the proved library
+//! against the plain ones, on random laid-out sets, good and damaged. Compiled
+//! only where KC_LIB names the library's folder.
 
 #![cfg(proved)]
 
@@ -62,7 +62,14 @@ struct Function {
     refusals: &'static [u32],
 }
 
-const FUNCTIONS: [Function; 1] = [
+const FUNCTIONS: [Function; 2] = [
+    // Stored numbers: by the first end, and by the second.
+    Function {
+        proved: |l, _, first, second| library::augment(&l.network, &l.legs, &l.offsets, first, second),
+        plain: |l, _, first, second| calls::augment(&l.network, &l.legs, &l.offsets, first, second),
+        wanted: |l, _| (l.legs.len(), l.legs.len()),
+        refusals: &[0, 2, 6, 7, 8, 9, 13, 14, 15, 17],
+    },
     // Positions and moves.
     Function {
         proved: |l, (one, two, t, b), p, m| library::cursors(&l.network, &l.legs, &l.offsets, (one, two), t, b, p, m),

@@ -23,6 +23,7 @@ use Rattle.model.specs.Network.{Network}
 use Rattle.layout.specs.Layout.{LaidOut}
 use Rattle.distance.specs.Answers.{rowCheck, RowAnswered, tableCheck, TableAnswered}
 use Rattle.prepare.specs.Counts.{countsCheck, CountsAnswered}
+use Rattle.count_augmentation.specs.Augmented.{augmentCheck, Augmented}
 use Rattle.neighbor_sharing.specs.Answers.{cursorsCheck, CursorsAnswered}
 use Rattle.readers.specs.Answers.{listAnswer, thresholdTextCheck, textThresholds, ThresholdsRead, eventTextCheck, textRows, EventsRead, networkAnswer, networkTextCheck, textNetwork, NetworkRead}
 
@@ -107,6 +108,10 @@ counts-answered {net} {sets} {es} {xs} {ts} {old} {new} {r} {n} {p} counts told 
 -- cursors answered, and their verdict told
 pub cursors-answered : {net : Network} {es xs : List ℕ} {e f t bound : ℕ} {ps ms ps′ ms′ : List ℕ} {r : Check} {n p : ℕ} → CursorsAnswered net es xs e f t bound ps ms r ps′ ms′ → Told r n p → Told (cursorsCheck net es xs e f ps ms) n p × CursorsAnswered net es xs e f t bound ps ms (cursorsCheck net es xs e f ps ms) ps′ ms′
 cursors-answered {net} {es} {xs} {e} {f} {t} {bound} {ps} {ms} {ps′} {ms′} {r} {n} {p} cursors told = (subst (λ v. Told v n p) (cursors .verdict) told, subst (λ v. CursorsAnswered net es xs e f t bound ps ms v ps′ ms′) (cursors .verdict) cursors)
+
+-- stored numbers answered, and their verdict told
+pub stored-answered : {net : Network} {es xs nf ns nf′ ns′ : List ℕ} {r : Check} {n p : ℕ} → Augmented net es xs nf ns r nf′ ns′ → Told r n p → Told (augmentCheck net es xs nf ns) n p × Augmented net es xs nf ns (augmentCheck net es xs nf ns) nf′ ns′
+stored-answered {net} {es} {xs} {nf} {ns} {nf′} {ns′} {r} {n} {p} stored told = (subst (λ v. Told v n p) (stored .verdict) told, subst (λ v. Augmented net es xs nf ns v nf′ ns′) (stored .verdict) stored)
 
 -- thresholds read, and the answer told
 pub thresholds-read : {bytes old new : List ℕ} {a : ReadList} {r n p : ℕ} → ThresholdsRead bytes old a new → ToldWith (listVerdict a) (readOf a) r n p → ToldWith (listVerdict (listAnswer (thresholdTextCheck bytes old) (length (textThresholds bytes)))) (readOf (listAnswer (thresholdTextCheck bytes old) (length (textThresholds bytes)))) r n p × ThresholdsRead bytes old (listAnswer (thresholdTextCheck bytes old) (length (textThresholds bytes))) new

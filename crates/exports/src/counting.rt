@@ -2,7 +2,6 @@
 ghost use lib.ListN.{length};
 ghost use Rattle.model.specs.Network.{network};
 ghost use Rattle.prepare.specs.Counts.{countsCheck, CountsAnswered};
-ghost use Rattle.neighbor_sharing.specs.Answers.{cursorsCheck, CursorsAnswered};
 ghost use Rattle.exports.specs.Told.{Told};
 use crate::told;
 
@@ -70,41 +69,34 @@ pub extern "C" fn kc_augmentation_counts(
     told::tell(answer, number, place);
 }
 
-// The cursors of two edges of a laid-out set: six positions for each event on the first, and six sums of moves.
-// 0 where there is no cursor, else one more than the number.
+// By cursors that neighbouring events share.
 #[no_mangle]
-pub extern "C" fn kc_cursors(
+pub extern "C" fn kc_sharing_counts(
     nodes: u32,
     firsts: &[u32],
     seconds: &[u32],
     lengths: &[u32],
+    sets: &[u32],
     edges: &[u32],
     offsets: &[u32],
-    edge1: u32,
-    edge2: u32,
-    threshold: u32,
-    bound: u32,
-    positions: &mut [u32],
-    moves: &mut [u32],
+    thresholds: &[u32],
+    answers: &mut [u32],
     number: &mut u32,
     place: &mut usize,
 )
-    ensures { λ _. ⌜ Told (cursorsCheck (network nodes (now (firsts .entry)) (now (seconds .entry)) (now (lengths .entry))) (now (edges .entry)) (now (offsets .entry)) edge1 edge2 (now (positions .entry)) (now (moves .entry))) (now (number .exit)) (now (place .exit)) ⌝ }
-    ensures { λ _. ⌜ CursorsAnswered (network nodes (now (firsts .entry)) (now (seconds .entry)) (now (lengths .entry))) (now (edges .entry)) (now (offsets .entry)) edge1 edge2 threshold bound (now (positions .entry)) (now (moves .entry)) (cursorsCheck (network nodes (now (firsts .entry)) (now (seconds .entry)) (now (lengths .entry))) (now (edges .entry)) (now (offsets .entry)) edge1 edge2 (now (positions .entry)) (now (moves .entry))) (now (positions .exit)) (now (moves .exit)) ⌝ }
+    ensures { λ _. ⌜ Told (countsCheck (network nodes (now (firsts .entry)) (now (seconds .entry)) (now (lengths .entry))) (now (sets .entry)) (now (edges .entry)) (now (offsets .entry)) (now (thresholds .entry)) (length (now (answers .entry)))) (now (number .exit)) (now (place .exit)) ⌝ }
+    ensures { λ _. ⌜ CountsAnswered (network nodes (now (firsts .entry)) (now (seconds .entry)) (now (lengths .entry))) (now (sets .entry)) (now (edges .entry)) (now (offsets .entry)) (now (thresholds .entry)) (now (answers .entry)) (countsCheck (network nodes (now (firsts .entry)) (now (seconds .entry)) (now (lengths .entry))) (now (sets .entry)) (now (edges .entry)) (now (offsets .entry)) (now (thresholds .entry)) (length (now (answers .entry)))) (now (answers .exit)) ⌝ }
 {
-    let answer = neighbor_sharing::cursors(
+    let answer = neighbor_sharing::counts(
         nodes,
         firsts,
         seconds,
         lengths,
+        sets,
         edges,
         offsets,
-        edge1,
-        edge2,
-        threshold,
-        bound,
-        positions,
-        moves,
+        thresholds,
+        answers,
     );
     told::tell(answer, number, place);
 }

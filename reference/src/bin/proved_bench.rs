@@ -102,9 +102,10 @@ mod bench {
     type Proved = fn(&NetworkInput, &ReportInput, &[u32], &mut [u32]) -> Result<(), Refusal>;
 
     /// Each method, with the turns that its time allows.
-    const METHODS: [(&str, Proved, Method, usize); 2] = [
+    const METHODS: [(&str, Proved, Method, usize); 3] = [
         ("range query", library::range_counts, Method::RangeQuery, 25),
         ("count augmentation", library::augmentation_counts, Method::CountAugmentation, 8),
+        ("neighbour sharing", library::sharing_counts, Method::NeighbourSharing, 8),
     ];
 
     /// Checks, laying out, leg-end distances and counts, from plain lists.

@@ -60,6 +60,20 @@ extern "C" {
         thresholds: *const u32, thresholds_len: usize, answers: *mut u32, answers_len: usize,
         number: *mut u32, place: *mut usize,
     );
+    fn kc_sharing_counts(
+        nodes: u32, firsts: *const u32, firsts_len: usize, seconds: *const u32, seconds_len: usize,
+        lengths: *const u32, lengths_len: usize,
+        sets: *const u32, sets_len: usize, edges: *const u32, edges_len: usize, offsets: *const u32, offsets_len: usize,
+        thresholds: *const u32, thresholds_len: usize, answers: *mut u32, answers_len: usize,
+        number: *mut u32, place: *mut usize,
+    );
+    fn kc_augment(
+        nodes: u32, firsts: *const u32, firsts_len: usize, seconds: *const u32, seconds_len: usize,
+        lengths: *const u32, lengths_len: usize,
+        edges: *const u32, edges_len: usize, offsets: *const u32, offsets_len: usize,
+        near_first: *mut u32, near_first_len: usize, near_second: *mut u32, near_second_len: usize,
+        number: *mut u32, place: *mut usize,
+    );
     fn kc_cursors(
         nodes: u32, firsts: *const u32, firsts_len: usize, seconds: *const u32, seconds_len: usize,
         lengths: *const u32, lengths_len: usize,
@@ -208,6 +222,26 @@ macro_rules! counts {
 
 counts!(range_counts, kc_range_counts);
 counts!(augmentation_counts, kc_augmentation_counts);
+counts!(sharing_counts, kc_sharing_counts);
+
+pub fn augment(
+    net: &NetworkInput,
+    edges: &[u32],
+    offsets: &[u32],
+    near_first: &mut [u32],
+    near_second: &mut [u32],
+) -> Result<(), Refusal> {
+    // SAFETY: as above.
+    told(|number, place| unsafe {
+        kc_augment(
+            net.nodes, net.firsts.as_ptr(), net.firsts.len(), net.seconds.as_ptr(), net.seconds.len(),
+            net.lengths.as_ptr(), net.lengths.len(),
+            edges.as_ptr(), edges.len(), offsets.as_ptr(), offsets.len(),
+            near_first.as_mut_ptr(), near_first.len(), near_second.as_mut_ptr(), near_second.len(),
+            number, place,
+        )
+    })
+}
 
 /// The marks of two edges, given as a pair.
 pub fn cursors(

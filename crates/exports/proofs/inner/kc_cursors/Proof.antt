@@ -1,8 +1,8 @@
 -- The verdict, told.
 use borrow.Author.Needs.{needs}
 use Rattle.exports.proofs.Telling.{cursors-answered}
-use Rattle.exports.proofs.counting.kc_cursors.Statement.{statement}
-use Rattle.exports.proofs.counting.kc_cursors.Tie as tie
+use Rattle.exports.proofs.inner.kc_cursors.Statement.{statement}
+use Rattle.exports.proofs.inner.kc_cursors.Tie as tie
 
 cursors-requires : tie.Need-cursors-requires
 cursors-requires c κs = search needs
