@@ -2,7 +2,7 @@
 //!
 //! KC_PROGRAM is the path of the proved program; without it these tests say so
 //! and do nothing. KC_FOLDERS is the number of random folders (400 if it is
-//! not set; 20000 takes some minutes).
+//! not set; 20000 takes a minute or two, and from 5000 on every refusal is met).
 
 mod common;
 
@@ -266,6 +266,9 @@ fn file(rng: &mut Rng, written: Vec<u8>, damaged: bool, csv: bool) -> File {
     }
 }
 
+/// The refusals that each file can meet.
+const REFUSALS: [&[u32]; 3] = [&[1, 3, 5, 6, 7, 8, 9, 10, 11], &[1, 3, 4, 12, 13, 14, 15, 16], &[1, 3, 4, 18, 19]];
+
 #[test]
 fn random_folders() {
     let Some(proved) = program() else { return };
@@ -311,11 +314,14 @@ fn random_folders() {
         let refusal: Vec<&str> = told.trim_end().split(',').skip(1).take(2).collect();
         met.insert(if told.starts_with("refused,") { refusal.join(" ") } else { "table".to_string() });
     }
-    // Tables, and refusals of all three files, of several kinds each.
+    println!("{turns} folders: {met:?}");
+    // Tables, and refusals of all three files, of several kinds each; of every
+    // kind where there are many folders.
     assert!(turns < 400 || met.contains("table"), "{met:?}");
-    for name in FILES {
-        let kinds = met.iter().filter(|refusal| refusal.starts_with(name)).count();
-        assert!(turns < 400 || kinds >= 3, "{name}: {met:?}");
+    for (name, numbers) in FILES.into_iter().zip(REFUSALS) {
+        let kinds: BTreeSet<u32> = met.iter().filter_map(|refusal| refusal.strip_prefix(name)?.trim().parse().ok()).collect();
+        assert!(turns < 400 || kinds.len() >= 3, "{name}: {met:?}");
+        assert!(turns < 5_000 || kinds == numbers.iter().copied().collect(), "{name}: {met:?}");
     }
 }
 
