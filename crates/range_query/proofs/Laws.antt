@@ -1,5 +1,4 @@
 -- Laws of the tally, of the metres and of pairs counted once.
-pub mod CountRows
 pub mod Between
 pub mod Tally
 pub mod Steps

@@ -54,6 +54,14 @@ pub sets-begin : {net : Network} {sets es xs ts : List ℕ} (old : List ℕ) →
 sets-begin {net} {sets} {es} {xs} {ts} old =
     record { rows = rows-begin (countRow net sets (events es xs) ts) (length ts) (row-length net sets es xs ts) old }
 
+-- a row more, put back as a part of k places
+pub set-more : {net : Network} {sets es xs ts old answers : List ℕ} (s start k : ℕ) (row : List ℕ) → k ≡ length ts → row ≡ countRow net sets (events es xs) ts s → SetsWritten net sets es xs ts old s start answers → SetsWritten net sets es xs ts old (s + 1) (start + length ts) (putMid start k answers row)
+set-more {net} {sets} {es} {xs} {ts} {old} {answers} s start k row wide e w =
+    record {
+      rows =
+          row-written (countRow net sets (events es xs) ts) (length ts) (row-length net sets es xs ts) old s start k answers row wide (w .rows) e;
+    }
+
 module _ {net : Network} {sets es xs ts : List ℕ} {room : ℕ} {edges offsets bounds setRuns table : List ℕ} {count : ℕ} (b : Begun net sets es xs ts room edges offsets bounds setRuns table count) where
   -- the row of the next set fits behind the rows so far
   pub row-fits : {old answers : List ℕ} (s start : ℕ) → s < count → length old ≡ room → SetsWritten net sets es xs ts old s start answers → start + length ts ≤ room
@@ -69,11 +77,7 @@ module _ {net : Network} {sets es xs ts : List ℕ} {room : ℕ} {edges offsets 
   -- one set more
   pub set-written : {old answers : List ℕ} (s start k r q : ℕ) (row : List ℕ) → s < count → k ≡ length ts → r ≡ getD setRuns s 0 → q ≡ getD setRuns (s + 1) 0 → row ≡ otherRow net edges offsets bounds ts r q → SetsWritten net sets es xs ts old s start answers → SetsWritten net sets es xs ts old (s + 1) (start + length ts) (putMid start k answers row)
   set-written {old} {answers} s start k r q row h wide first last e w =
-      record {
-        rows =
-            row-written (countRow net sets (events es xs) ts) (length ts) (row-length net sets es xs ts) old s start k answers row wide (w .rows)
-            (e ∙ rw (first, last, add-one s) (row-is (b .accepted .sets-are) (b .accepted .thresholds-are) (b .lists) s (omega (arith, b .count-is))));
-      }
+      set-more s start k row wide (e ∙ rw (first, last, add-one s) (row-is (b .accepted .sets-are) (b .accepted .thresholds-are) (b .lists) s (omega (arith, b .count-is)))) w
 
 -- on refusal the answers are kept
 pub refused-answered : {net : Network} {sets es xs ts old : List ℕ} {r : Check} {edges offsets bounds setRuns table : List ℕ} {number place : ℕ} → prepared.Ready net sets es xs ts (length old) r edges offsets bounds setRuns table → r ≡ Refused number place → CountsAnswered net sets es xs ts old r old

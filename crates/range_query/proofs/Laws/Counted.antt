@@ -20,24 +20,18 @@ use Rattle.model.proofs.Laws.Checks.{SetsAccepted, ThresholdsAccepted}
 use Rattle.model.proofs.Laws.Counting.{sum-below-cong, count-below-cong}
 use Rattle.prepare.specs.Counts.{countRow}
 use Rattle.prepare.specs.Prepared.{Prepared, laidOutSet, startOf, greatest, entry}
-use Rattle.range_query.proofs.Laws.CountRows.{row-length}
+use Rattle.prepare.proofs.Laws.AllSets.{row-length}
 use Rattle.prepare.proofs.Laws.Entries.{ends-entry}
 use Rattle.prepare.proofs.Laws.Groups.{events-total, laid-out-length, start-next, starts-rise}
 use Rattle.prepare.proofs.Laws.InRuns.{set-runs-rise}
 use Rattle.prepare.proofs.Laws.LaidEvents.{set-count, set-event, events-long, laid-is-event}
+use Rattle.prepare.proofs.Laws.SetPairs.{Stored}
 use Rattle.range_query.specs.Metres.{metresAt}
 use Rattle.range_query.specs.Runs.{RunsReady, pairsFrom}
 use Rattle.range_query.specs.Tally.{Spread, SetCounted}
 use Rattle.range_query.proofs.Laws.Answers.{spread-steps, spread-first, spread-most}
 use Rattle.range_query.proofs.Laws.Halves.{pair-halves, pairs-from-start}
 use Rattle.range_query.proofs.Laws.Routes.{metres-within}
-
--- the lists have room for all events and all nodes
-pub record Stored (edges offsets bounds setRuns table : List ℕ) : Type 0 where
-  pub edges-length : length edges ≡ maxEvents
-  pub offsets-length : length offsets ≡ maxEvents
-  pub bounds-length : length bounds ≡ suc maxEvents
-  pub table-length : length table ≡ 262144
 
 -- what a list's elements are made into
 map-at : (f : ℕ → ℕ) (l : List ℕ) (k : ℕ) → k < length l → getD (map f l) k 0 ≡ f (getD l k 0)
@@ -52,7 +46,7 @@ module _ {net : Network} {sets es xs ts edges offsets bounds setRuns table steps
   set-ends s h = omega (arith, starts-rise sets (suc s) (setCount sets) h, events-total sets es (accepted .sets-length))
 
   -- what is read for the runs of set s
-  pub set-ready : Stored edges offsets bounds setRuns table → (s : ℕ) → s < setCount sets → RunsReady net table edges offsets bounds steps (getD setRuns s 0) (getD setRuns (suc s) 0)
+  pub set-ready : Stored edges offsets bounds table → (s : ℕ) → s < setCount sets → RunsReady net table edges offsets bounds steps (getD setRuns s 0) (getD setRuns (suc s) 0)
   set-ready stored s h =
       let net-is = accepted .is-network in
       let end : getD bounds (getD setRuns (suc s) 0) 0 ≡ startOf sets (suc s) = p .runs .set-begins (suc s) h in
@@ -128,7 +122,7 @@ module _ {net : Network} {sets es xs ts edges offsets bounds setRuns table steps
   pub set-row-is : (s : ℕ) → s < setCount sets → (old row : List ℕ) → length old ≡ length ts → SetCounted steps (pairsFrom (metresAt net table edges offsets) (getD bounds (getD setRuns s 0) 0) (getD bounds (getD setRuns s 0) 0) (getD bounds (getD setRuns (suc s) 0) 0)) old row → row ≡ countRow net sets (events es xs) ts s
   unfolding countRow
   set-row-is s h old row long counted =
-      ext-getD 0 row (countRow net sets (events es xs) ts s) (counted .long ∙ long ∙ sym (row-length net sets (events es xs) ts s)) (λ k l. entry-is k (omega (arith, counted .long)))
+      ext-getD 0 row (countRow net sets (events es xs) ts s) (counted .long ∙ long ∙ sym (row-length net sets es xs ts s)) (λ k l. entry-is k (omega (arith, counted .long)))
     where
       entry-is : (k : ℕ) → k < length ts → getD row k 0 ≡ getD (countRow net sets (events es xs) ts s) k 0
       entry-is k l =
