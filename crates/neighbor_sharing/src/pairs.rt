@@ -8,9 +8,9 @@ ghost use Prim.Native.Nat.{ℕ, pred, _+_, _*_, _≤_, _<_};
 ghost use lib.ListN.{length, getD};
 ghost use Rattle.model.specs.Location.{reaches};
 ghost use Rattle.model.specs.Network.{network};
-ghost use Rattle.neighbor_sharing.specs.Joined.{isReached, reachedPairs};
+ghost use Rattle.neighbor_sharing.specs.Joined.{isReached, reachedPairs, joinedSum};
 ghost use Rattle.neighbor_sharing.specs.Runs.{tableEdges, TableEntry, Held};
-ghost use Rattle.neighbor_sharing.specs.Six.{decoded, EdgesSweepable};
+ghost use Rattle.neighbor_sharing.specs.Six.{decoded, EdgesSweepable, EdgesSwept};
 
 // The table entry of two nodes.
 fn entry(nodes: u32, table: &[u32], u: u32, v: u32) -> u32
@@ -77,7 +77,7 @@ pub(crate) fn is_apart(threshold: u32, edges: Edges) -> bool
     !is_within(threshold, edges.ss)
 }
 
-// For each event of the first edge, how many of the second are reached, by the cursors of a sweep.
+// For each event of the first edge, how many of the second are reached: counted from the positions that a sweep leaves.
 pub(crate) fn count_pairs(
     threshold: u32,
     edges: Edges,
@@ -88,6 +88,8 @@ pub(crate) fn count_pairs(
 ) -> u64
     requires { ⌜ EdgesSweepable edges (now xs) (now ys) (now positions) (now moves) ⌝ }
     ensures { λ r. ⌜ (r ≡ reachedPairs threshold edges (now (xs .entry)) (now (ys .entry))) × (r ≤ 67108864) ⌝ }
+    ensures { λ r. ⌜ r ≡ joinedSum (now (positions .exit)) (length (now (xs .entry))) (length (now (ys .entry))) ⌝ }
+    ensures { λ _. ⌜ EdgesSwept threshold edges (now (xs .entry)) (now (ys .entry)) (now (positions .entry)) (now (moves .entry)) (now (positions .exit)) (now (moves .exit)) ⌝ }
 {
     sweep_edges(threshold, edges, xs, ys, positions, moves);
     count_swept(positions, xs.len(), ys.len() as u64)

@@ -19,8 +19,10 @@ same-length-2 c = search needs
 
 returns : tie.Need-returns
 returns c =
-    let start = c .before .before .before .before .before .before .before .before .before .before .before .before .before in
-    (c .count-swept .ensures .0 ∙ sum-reached _ _ _ _ (c .before .before .before .before .before .before .sweep-edges .ensures) (start .pre .second-laid .ordered), c .count-swept .ensures .1)
+    let start = c .before .before .before .before .before .before .before .before .before .before .before .before .before in (
+      (c .count-swept .ensures .0 ∙ sum-reached _ _ _ _ (c .before .before .before .before .before .before .sweep-edges .ensures) (start .pre .second-laid .ordered), c .count-swept .ensures .1),
+      (c .count-swept .ensures .0, c .before .before .before .before .before .before .sweep-edges .ensures),
+    )
 
 pub count-pairs-spec : {M : Type 1} → statement M
 count-pairs-spec =

@@ -107,7 +107,7 @@ same-length-2 : tie.Need-same-length-2
 same-length-2 c = search needs
 
 returns-2 : tie.Need-returns-2
-returns-2 c = let at = c .before .before .before .before .before .before .before .before .before .before .before .before in counted (call at .pre .0) (call at .pre .1) (read at) _ (c .before .before .before .before .before .before .before .before .before .before .before .table-edges .ensures) _ (c .before .before .before .before .count-pairs .ensures)
+returns-2 c = let at = c .before .before .before .before .before .before .before .before .before .before .before .before in counted (call at .pre .0) (call at .pre .1) (read at) _ (c .before .before .before .before .before .before .before .before .before .before .before .table-edges .ensures) _ (c .before .before .before .before .count-pairs .ensures .0)
 
 pub meet-runs-spec : {M : Type 1} → statement M
 meet-runs-spec =
