@@ -57,7 +57,7 @@ pub record Prepared (net : Network) (sets es xs ts edges offsets bounds setRuns 
   pub from-second : (k v : ℕ) → k < length es → IsNode net v → entry net table (second net (pred (getD es k 0))) v ≡ code (boundedDistance net (greatest ts) (second net (pred (getD es k 0))) v)
 
 -- the promise of preparing: its verdict, and on acceptance what the five lists hold then. They are working storage of the caller, so
--- what they hold on refusal is free
+-- what they hold on refusal is free, and so is on acceptance what none of this speaks of
 pub record Ready (net : Network) (sets es xs ts : List ℕ) (room : ℕ) (r : Check) (edges offsets bounds setRuns table : List ℕ) : Type 0 where
   pub verdict : r ≡ countsCheck net sets es xs ts room
   pub prepared : countsCheck net sets es xs ts room ≡ Accepted → Prepared net sets es xs ts edges offsets bounds setRuns table

@@ -25,7 +25,8 @@ pub const TABLE: usize = Network::MAX_NODES as usize * Network::MAX_NODES as usi
 
 // Checks everything that a counting method is lent. On acceptance the laid-out lists hold the sets one after the other, each laid
 // out; bounds the places at which runs of events on one edge begin; set_runs the number of the run with which each set begins;
-// and table the leg-end distances. These five are working storage of the caller: what they hold on refusal is free.
+// and table the leg-end distances. These five are working storage of the caller: what they hold on refusal is free, and on
+// acceptance what stands behind the events, the runs and the sets, and rows of nodes at which no event's edge ends.
 pub fn prepare(
     nodes: u32,
     firsts: &[u32],
