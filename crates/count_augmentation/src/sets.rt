@@ -73,7 +73,7 @@ fn set_row(
     write_row(bounds, r, q, &beside, &earlier, row);
 }
 
-// The same with working storage lent.
+// `counts` with working storage lent.
 fn count_sets(
     nodes: u32,
     firsts: &[u32],

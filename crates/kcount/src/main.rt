@@ -7,9 +7,9 @@ use libc::STDOUT_FILENO;
 use printing::Printed;
 
 // One byte more than a text may have, so that a longer one is refused and not cut off.
-const TEXT: usize = 60001;
+const TEXT: usize = readers::MAX_BYTES + 1;
 
-// Fills the list from a file, and answers how many bytes there were. A file that cannot be opened counts as empty.
+// Fills the list from a file, and answers how many bytes were read. A file that cannot be opened counts as empty.
 fn read(path: &[u8], text: &mut [u8]) -> usize
     ensures { λ r. ⌜ r ≤ length (now (text .exit)) ⌝ }
 {

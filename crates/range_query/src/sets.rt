@@ -8,7 +8,7 @@ use crate::tally::STEPS;
 use model::Check;
 use model::EventSet;
 
-// The same with working storage lent.
+// `counts` with working storage lent.
 fn count_sets(
     nodes: u32,
     firsts: &[u32],

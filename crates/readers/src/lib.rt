@@ -11,6 +11,7 @@ mod thresholds;
 
 pub use answers::ReadList;
 pub use answers::ReadNetwork;
+pub use length::MAX_BYTES;
 ghost use Rattle.readers.specs.Answers.{ThresholdsRead, NetworkRead, EventsRead};
 ghost use Rattle.model.specs.Network.{network};
 use model::EventSet;

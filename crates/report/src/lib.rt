@@ -9,7 +9,7 @@ use model::Network;
 use network::read_with;
 use printing::Printed;
 
-// Room for every report.
+// Room for whatever is printed.
 pub const REPORT_ROOM: usize = 5475;
 
 // Prints the line of the first refused text, otherwise the table. Refuses a list of bytes that is too short (2), which one with

@@ -9,7 +9,7 @@ use model::EventSet;
 use printing::Printed;
 use readers::ReadList;
 
-// The same with room for the reports lent.
+// What follows the network, with room for the reports lent.
 fn read_with(
     nodes: u32,
     firsts: &[u32],

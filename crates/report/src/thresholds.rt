@@ -12,7 +12,7 @@ use model::Thresholds;
 use printing::Printed;
 use readers::ReadList;
 
-// The same with room for the thresholds lent.
+// The table, with room for the thresholds lent.
 fn read_with(
     nodes: u32,
     firsts: &[u32],
