@@ -4,7 +4,7 @@ use Prim.Native.Nat.{ℕ, suc, _+_}
 use native.Mathlib.Numerals.{add-one}
 use Rattle.model.specs.declared.check.Check.{Check}
 use Rattle.model.specs.declared.check.Check.the-variants.{Accepted, Refused}
-use Rattle.layout.specs.Stretch.{numberOf, placeOf}
+use Rattle.model.specs.Refusal.{numberOf, placeOf}
 use Rattle.distance.specs.declared.answers.Length.{Length}
 use Rattle.distance.specs.declared.answers.Length.the-variants as length-answer
 use Rattle.distance.specs.declared.answers.BoundedLength.{BoundedLength}

@@ -3,7 +3,7 @@ use mathlib.Core.Path.{_≡_}
 use Prim.Native.Nat.{ℕ, suc}
 use Rattle.model.specs.declared.check.Check.{Check}
 use Rattle.model.specs.declared.check.Check.the-variants.{Accepted, Refused}
-use Rattle.layout.specs.Stretch.{numberOf, placeOf}
+use Rattle.model.specs.Refusal.{numberOf, placeOf}
 use Rattle.distance.specs.declared.answers.Length.{Length}
 use Rattle.distance.specs.declared.answers.Length.the-variants as length-answer
 use Rattle.distance.specs.declared.answers.BoundedLength.{BoundedLength}

@@ -5,17 +5,9 @@ use Prim.Native.Nat.{ℕ}
 use Rattle.model.specs.Checks.{laidOutCheck}
 use Rattle.model.specs.Events.{having}
 use Rattle.model.specs.Network.{Network}
+use Rattle.model.specs.Refusal.{numberOf, placeOf}
 use Rattle.model.specs.declared.check.Check.{Check}
 use Rattle.model.specs.declared.check.Check.the-variants.{Accepted, Refused}
-
--- number and place of a refusal; 0 and 0 where there is none
-unfoldable pub numberOf : Check → ℕ
-numberOf Accepted = 0
-numberOf (Refused number place) = number
-
-unfoldable pub placeOf : Check → ℕ
-placeOf Accepted = 0
-placeOf (Refused number place) = place
 
 -- empty where it is refused
 unfoldable pub stretchOf : Check → ℕ → List ℕ → List ℕ → List ℕ

@@ -23,6 +23,15 @@ firstBadFrom number good start (suc n) = orElse (unless (good start) number star
 unfoldable pub firstBad : ℕ → (ℕ → Bool) → ℕ → Check
 firstBad number good n = firstBadFrom number good 0 n
 
+-- number and place of a refusal; 0 and 0 where there is none
+unfoldable pub numberOf : Check → ℕ
+numberOf Accepted = 0
+numberOf (Refused number place) = number
+
+unfoldable pub placeOf : Check → ℕ
+placeOf Accepted = 0
+placeOf (Refused number place) = place
+
 -- the number is from low to high, both included
 unfoldable pub isBetween : ℕ → ℕ → ℕ → Bool
 isBetween low high n = leb low n && leb n high

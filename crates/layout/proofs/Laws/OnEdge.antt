@@ -15,8 +15,9 @@ use Rattle.model.specs.Checks.{laidOutCheck}
 use Rattle.model.specs.Counting.{countIf}
 use Rattle.model.specs.Events.{having}
 use Rattle.model.specs.Network.{Network}
+use Rattle.model.specs.Refusal.{numberOf, placeOf}
 use Rattle.model.specs.declared.check.Check.the-variants.{Accepted, Refused}
-use Rattle.layout.specs.Stretch.{StretchAnswered, stretchOf, numberOf, placeOf}
+use Rattle.layout.specs.Stretch.{StretchAnswered, stretchOf}
 
 -- below one more than the edge is up to the edge
 next-edge : (e : ℕ) (es : List ℕ) → countIf (λ t. ltb t (e + 1)) es ≡ through-edge e es
