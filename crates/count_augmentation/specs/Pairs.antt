@@ -1,12 +1,11 @@
 -- What the functions over two runs keep: cited by inner functions alone.
 use mathlib.Core.List.{List}
-use mathlib.Core.Path.{_≡_}
-use Prim.Native.Nat.{ℕ, _*_, _≤_}
+use Prim.Native.Nat.{ℕ, _≤_}
 use lib.Dec.{eqb}
 use lib.ListN.{length, getD}
 use Rattle.model.specs.Counting.{sumBelow}
-use Rattle.model.specs.Limits.{maxNodes, maxEvents}
-use Rattle.model.specs.Network.{Network, EndsAreNodes, edges, first, second, size}
+use Rattle.model.specs.Limits.{maxEvents}
+use Rattle.model.specs.Network.{Network, first, second, size}
 use Rattle.prepare.specs.Prepared.{entry}
 use Rattle.count_augmentation.specs.Reach.{farthest, reached, Run}
 use Rattle.count_augmentation.specs.Storing.{OnEdge}
@@ -24,14 +23,6 @@ edgePair net table i j =
       seconds = entry net table (second net i) (second net j);
       same = eqb i j;
     }
-
--- a network within its limits, and room for a square table
-pub record EndTable (net : Network) (table : List ℕ) : Type 0 where
-  pub firsts-length : length (net .firsts) ≡ edges net
-  pub seconds-length : length (net .seconds) ≡ edges net
-  pub nodes-to : net .nodes ≤ maxNodes
-  pub ends : EndsAreNodes net
-  pub room : net .nodes * net .nodes ≤ length table
 
 -- how many offsets of the second edge an event at x on the first reaches
 unfoldable pub reachedBy : EdgePair → ℕ → ℕ → List ℕ → ℕ

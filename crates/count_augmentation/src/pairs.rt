@@ -5,7 +5,8 @@ ghost use mathlib.Core.Path.{_≡_};
 ghost use Prim.Native.Nat.{ℕ, pred, _+_, _*_, _≤_, _<_};
 ghost use lib.ListN.{length, getD};
 ghost use Rattle.model.specs.Network.{network};
-ghost use Rattle.count_augmentation.specs.Pairs.{edgePair, EndTable, reachedBy, reachedPairs, TwoRuns};
+ghost use Rattle.prepare.specs.EndTable.{EndTable, TableEntry};
+ghost use Rattle.count_augmentation.specs.Pairs.{edgePair, reachedBy, reachedPairs, TwoRuns};
 ghost use Rattle.count_augmentation.specs.Reach.{Run};
 ghost use Rattle.count_augmentation.specs.Storing.{OnEdge};
 use crate::reach::count_reached;
@@ -25,7 +26,7 @@ pub struct EdgePair {
 
 // The table entry of two nodes.
 fn entry(nodes: u32, table: &[u32], u: u32, v: u32) -> u32
-    requires { ⌜ (1 ≤ u) × (u ≤ nodes) × (1 ≤ v) × (v ≤ nodes) × (nodes ≤ 512) × (nodes * nodes ≤ length (now table)) ⌝ }
+    requires { ⌜ TableEntry nodes (now table) u v ⌝ }
     ensures { λ r. ⌜ r ≡ getD (now (table .entry)) (pred u * nodes + pred v) 0 ⌝ }
 {
     table[(u as usize - 1) * (nodes as usize) + (v as usize - 1)]

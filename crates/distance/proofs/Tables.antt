@@ -10,6 +10,7 @@ use borrow.Author.Tests.{eq-eqb, ne-eqb, eqb-true, le-leb, lt-leb, leb-true}
 use lib.Dec.{eqb}
 use lib.ListN.{length, getD, take, drop, take-append-drop, drop-of-length-le, length-append, length-take, length-drop}
 use lib.Seq.{length-take-le, take-at, drop-at, drop-drop}
+use Rattle.model.proofs.Laws.CheckParts.{lists-first}
 use Rattle.model.proofs.Laws.Checks.{network-accepted}
 use Rattle.model.proofs.Laws.Refusal.{both-accepted, unless-accepted, or-else-next, or-else-refused, unless-accepts, unless-refuses}
 use Rattle.model.specs.Checks.{networkLists, networkValues, networkCheck, roomCheck}
@@ -20,7 +21,6 @@ use Rattle.model.specs.declared.check.Check.{Check}
 use Rattle.model.specs.declared.check.Check.the-variants.{Accepted, Refused}
 use Rattle.distance.specs.Answers.{distanceRow, tableRows, table, tableCheck, TableAnswered}
 use Rattle.distance.specs.Table.{Fillable}
-use Rattle.distance.proofs.Verdicts.{lists-first}
 use Rattle.model.proofs.Laws.Answer.{written-accepted}
 
 -- the square of a number of 32 bits
@@ -31,7 +31,7 @@ module _ (net : Network) (wanted rows : List ℕ) where
   -- the list of wanted nodes is not as long as it should be
   pub wanted-differs : (length wanted ≡ net .nodes → ⊥) → Refused listsDiffer 0 ≡ tableCheck net wanted rows
   unfolding tableCheck
-  wanted-differs n = lists-first net _ (or-else-refused _ (unless-refuses _ listsDiffer 0 (ne-eqb _ _ n)))
+  wanted-differs n = sym (lists-first net (or-else-refused _ (unless-refuses _ listsDiffer 0 (ne-eqb _ _ n))))
 
   module _ (same : length wanted ≡ net .nodes) where
     past-wanted : (rest : Check) → orElse (networkLists net) rest ≡ orElse (networkLists net) (orElse (unless (eqb (length wanted) (net .nodes)) listsDiffer 0) rest)
@@ -40,7 +40,7 @@ module _ (net : Network) (wanted rows : List ℕ) where
     -- the table is too short
     pub table-short : length rows < net .nodes * net .nodes → Refused listsDiffer 0 ≡ tableCheck net wanted rows
     unfolding tableCheck roomCheck
-    table-short h = lists-first net _ (or-else-refused _ (unless-refuses _ listsDiffer 0 (lt-leb _ _ h))) ∙ past-wanted _
+    table-short h = sym (lists-first net (or-else-refused _ (unless-refuses _ listsDiffer 0 (lt-leb _ _ h)))) ∙ past-wanted _
 
     -- both fit: the network decides
     pub table-roomy : net .nodes * net .nodes ≤ length rows → networkCheck net ≡ tableCheck net wanted rows
@@ -79,10 +79,6 @@ pub record Filled (net : Network) (bound : ℕ) (wanted old : List ℕ) (k at : 
 pub record RowEnd (net : Network) (at : ℕ) (rows : List ℕ) : Type 0 where
   pub inside : at + net .nodes ≤ length rows
   pub small : at + net .nodes ≤ maxNodes * maxNodes
-
--- a part of n entries from at on
-pub part-length : (at n : ℕ) (rows : List ℕ) → at + n ≤ length rows → length (take (at + n - at) (drop at rows)) ≡ n
-part-length at n rows h = length-take-le (at + n - at) (drop at rows) (simp length-drop (omega arith)) ∙ omega arith
 
 module _ (net : Network) (bound : ℕ) (wanted old : List ℕ) where
   pub fill-none : Filled net bound wanted old 0 0 old

@@ -6,6 +6,7 @@ use Prim.Native.Nat.{ℕ, _≤_, _<_}
 use lib.Dec.{eqb, leb}
 use lib.ListN.{length, drop}
 use borrow.Author.Tests.{le-leb, lt-leb, leb-true}
+use Rattle.model.proofs.Laws.CheckParts.{lists-first}
 use Rattle.model.proofs.Laws.Checks.{NodesAccepted, nodes-accepted}
 use Rattle.model.proofs.Laws.Refusal.{both-accepted, unless-accepted, or-else-next, or-else-refused, unless-accepts, unless-refuses}
 use Rattle.model.specs.Answer.{written}
@@ -15,16 +16,6 @@ use Rattle.model.specs.Refusal.{orElse, unless, listsDiffer}
 use Rattle.model.specs.declared.check.Check.{Check}
 use Rattle.model.specs.declared.check.Check.the-variants.{Accepted, Refused}
 use Rattle.distance.specs.Answers.{rowCheck}
-
--- 2 is 2, whichever list it is for
-pub lists-first : (net : Network) (rest : Check) → rest ≡ Refused listsDiffer 0 → Refused listsDiffer 0 ≡ orElse (networkLists net) rest
-unfolding networkLists sameLength orElse unless
-lists-first net rest e = go (eqb (length (net .firsts)) (length (net .lengths))) (eqb (length (net .seconds)) (length (net .lengths)))
-  where
-    go : (a b : Bool) → Refused listsDiffer 0 ≡ orElse (orElse (cond a Accepted (Refused listsDiffer 0)) (cond b Accepted (Refused listsDiffer 0))) rest
-    go true true = sym e
-    go true false = refl
-    go false b = refl
 
 -- a check said twice
 or-else-same : (a : Check) → orElse a a ≡ a
@@ -36,7 +27,7 @@ module _ (net : Network) (source : ℕ) (answers : List ℕ) where
   -- the answer list is too short
   pub row-short : length answers < net .nodes → Refused listsDiffer 0 ≡ rowCheck net source answers
   unfolding rowCheck roomCheck
-  row-short h = lists-first net _ (or-else-refused _ (unless-refuses _ listsDiffer 0 (lt-leb (net .nodes) (length answers) h)))
+  row-short h = sym (lists-first net (or-else-refused _ (unless-refuses _ listsDiffer 0 (lt-leb (net .nodes) (length answers) h))))
 
   -- the answer list has room: the rest decides
   pub row-roomy : net .nodes ≤ length answers → nodesOverNetworkCheck net source source ≡ rowCheck net source answers

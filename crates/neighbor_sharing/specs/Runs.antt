@@ -1,11 +1,10 @@
 -- What the functions over two runs ask and promise beside what is stated for both methods: cited by inner functions alone.
 use mathlib.Core.List.{List}
-use mathlib.Core.Path.{_≡_}
 use Prim.Native.Nat.{ℕ, _*_, _≤_}
 use lib.Dec.{eqb}
 use lib.ListN.{length}
-use Rattle.model.specs.Limits.{maxEvents, maxNodes}
-use Rattle.model.specs.Network.{Network, EndsAreNodes, edges, first, second, size}
+use Rattle.model.specs.Limits.{maxEvents}
+use Rattle.model.specs.Network.{Network, first, second, size}
 use Rattle.prepare.specs.Prepared.{entry}
 use Rattle.neighbor_sharing.specs.declared.sweep.Edges.{Edges}
 
@@ -21,23 +20,6 @@ tableEdges net table i j =
       sf = entry net table (second net i) (first net j);
       ss = entry net table (second net i) (second net j);
     }
-
--- two nodes, and a square table with an entry for them
-pub record TableEntry (nodes : ℕ) (table : List ℕ) (u v : ℕ) : Type 0 where
-  pub u-from : 1 ≤ u
-  pub u-to : u ≤ nodes
-  pub v-from : 1 ≤ v
-  pub v-to : v ≤ nodes
-  pub nodes-to : nodes ≤ maxNodes
-  pub room : nodes * nodes ≤ length table
-
--- a network within its limits, and a square table for its nodes
-pub record Held (net : Network) (table : List ℕ) : Type 0 where
-  pub firsts-length : length (net .firsts) ≡ edges net
-  pub seconds-length : length (net .seconds) ≡ edges net
-  pub nodes-to : net .nodes ≤ maxNodes
-  pub ends : EndsAreNodes net
-  pub room : net .nodes * net .nodes ≤ length table
 
 -- room for the positions of six cursors at every event of an edge, and for their moves; what stands there is free
 pub record SweepRoom (positions moves : List ℕ) : Type 0 where

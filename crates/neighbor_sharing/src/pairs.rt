@@ -8,8 +8,9 @@ ghost use Prim.Native.Nat.{ℕ, pred, _+_, _*_, _≤_, _<_};
 ghost use lib.ListN.{length, getD};
 ghost use Rattle.model.specs.Location.{reaches};
 ghost use Rattle.model.specs.Network.{network};
+ghost use Rattle.prepare.specs.EndTable.{EndTable, TableEntry};
 ghost use Rattle.neighbor_sharing.specs.Joined.{isReached, reachedPairs, joinedSum};
-ghost use Rattle.neighbor_sharing.specs.Runs.{tableEdges, TableEntry, Held};
+ghost use Rattle.neighbor_sharing.specs.Runs.{tableEdges};
 ghost use Rattle.neighbor_sharing.specs.Six.{decoded, EdgesSweepable, EdgesSwept};
 
 // The table entry of two nodes.
@@ -30,7 +31,7 @@ pub(crate) fn table_edges(
     i: usize,
     j: usize,
 ) -> Edges
-    requires { ⌜ Held (network nodes (now firsts) (now seconds) (now lengths)) (now table) × (i < length (now lengths)) × (j < length (now lengths)) ⌝ }
+    requires { ⌜ EndTable (network nodes (now firsts) (now seconds) (now lengths)) (now table) × (i < length (now lengths)) × (j < length (now lengths)) ⌝ }
     ensures { λ r. ⌜ r ≡ tableEdges (network nodes (now (firsts .entry)) (now (seconds .entry)) (now (lengths .entry))) (now (table .entry)) i j ⌝ }
 {
     let first = firsts[i];

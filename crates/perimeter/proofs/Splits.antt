@@ -10,29 +10,23 @@ use Rattle.model.specs.Location.{Location, node, inside, End, edgeEnds, ends, r
 use Rattle.model.specs.Network.{Network, edges, first, second, size}
 use Rattle.model.specs.NodeDistance.{nodeDistance}
 use Rattle.model.specs.Perimeter.{insides, locations}
-use Rattle.model.proofs.Laws.Counting.{count-append, count-numbers}
+use Rattle.model.proofs.Laws.Counting.{count-append, count-map, count-numbers}
 use Rattle.model.proofs.Laws.Distance.{least-none, least-assoc, least-comm, plus-zero, plus-comm, plus-least}
 use Rattle.perimeter.specs.Reach.{byEnds, stretchOf, insideDistance}
-
--- a count over a list of images
-count-map : {A B : Type 0} (f : A → B) (test : B → Bool) (xs : List A) → countIf test (map f xs) ≡ countIf (λ x. test (f x)) xs
-unfolding countIf
-count-map f test [] = refl
-count-map f test (x ∷ xs) = ap₂ _+_ refl (count-map f test xs)
 
 -- the inside locations are counted edge by edge
 insides-count : (net : Network) (test : Location → Bool) (n : ℕ) → countIf test (insides net n) ≡ sumBelow n (λ j. countIf (λ y. test (inside j y)) (numbersFrom 1 (pred (size net j))))
 unfolding insides sumBelow countIf
 insides-count net test zero = refl
 insides-count net test (suc n) =
-    count-append test (insides net n) _ ∙ ap₂ _+_ (insides-count net test n) (count-map (inside n) test (numbersFrom 1 (pred (size net n))))
+    count-append test (insides net n) _ ∙ ap₂ _+_ (insides-count net test n) (count-map test (inside n) (numbersFrom 1 (pred (size net n))))
 
 -- the locations: the nodes, then those inside
 pub locations-count : (net : Network) (test : Location → Bool) → countIf test (locations net) ≡ countBelow (net .nodes) (λ k. test (node (1 + k))) + sumBelow (edges net) (λ j. countIf (λ y. test (inside j y)) (numbersFrom 1 (pred (size net j))))
 unfolding locations
 locations-count net test =
     count-append test (map node (numbersFrom 1 (net .nodes))) _ ∙
-    ap₂ _+_ (count-map node test (numbersFrom 1 (net .nodes)) ∙ count-numbers _ 1 (net .nodes)) (insides-count net test (edges net))
+    ap₂ _+_ (count-map test node (numbersFrom 1 (net .nodes)) ∙ count-numbers _ 1 (net .nodes)) (insides-count net test (edges net))
 
 -- from an offset of an edge to a node, by the edge's two ends
 unfoldable pub toNode : Network → ℕ → ℕ → ℕ → Distance

@@ -6,6 +6,7 @@ pub mod Groups
 pub mod Laying
 pub mod Marks
 pub mod Table
+pub mod Square
 pub mod Ends
 pub mod Preparing
 pub mod LaidEvents

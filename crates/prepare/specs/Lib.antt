@@ -2,6 +2,7 @@
 pub mod Counts
 pub mod Prepared
 pub mod RunPairs
+pub mod EndTable
 pub mod Laying
 pub mod Cutting
 pub mod Marking

@@ -7,8 +7,9 @@ use lib.Dec.{leb}
 use lib.ListN.{length, getD}
 use Rattle.model.specs.Counting.{one-if}
 use Rattle.model.specs.Events.{event, IsEvent}
-use Rattle.model.specs.Limits.{maxNodes, maxLength, maxEvents}
-use Rattle.model.specs.Network.{Network, EndsAreNodes, size}
+use Rattle.model.specs.Limits.{maxEvents}
+use Rattle.model.specs.Network.{Network}
+use Rattle.prepare.specs.EndTable.{EndTable}
 use Rattle.range_query.specs.Metres.{Ways, metres}
 use Rattle.range_query.specs.Tally.{Steps, sumBetween}
 use Rattle.range_query.specs.declared.metres.EdgePair.{EdgePair}
@@ -44,24 +45,6 @@ pub record Block (g : EdgePair) (offsets : List ℕ) (a b c d : ℕ) : Type 0 wh
   pub on-edge : (i : ℕ) → a ≤ i → i < b → getD offsets i 0 ≤ g .size
   pub on-other : (j : ℕ) → c ≤ j → j < d → getD offsets j 0 ≤ g .other
 
--- a network within its limits, and a table for its nodes
-pub record Held (net : Network) (table : List ℕ) : Type 0 where
-  pub firsts-length : length (net .firsts) ≡ length (net .lengths)
-  pub seconds-length : length (net .seconds) ≡ length (net .lengths)
-  pub nodes-to : net .nodes ≤ maxNodes
-  pub ends : EndsAreNodes net
-  pub length-to : (i : ℕ) → i < length (net .lengths) → size net i ≤ maxLength
-  pub table-length : 262144 ≤ length table
-
--- two nodes, and a table with an entry for them
-pub record TableEntry (nodes : ℕ) (table : List ℕ) (u v : ℕ) : Type 0 where
-  pub u-from : 1 ≤ u
-  pub u-to : u ≤ nodes
-  pub v-from : 1 ≤ v
-  pub v-to : v ≤ nodes
-  pub nodes-to : nodes ≤ maxNodes
-  pub table-length : 262144 ≤ length table
-
 -- n laid-out events of the network
 pub record Placed (net : Network) (edges offsets : List ℕ) (n : ℕ) : Type 0 where
   pub few : n ≤ maxEvents
@@ -78,7 +61,7 @@ pub record RunsOf (edges bounds : List ℕ) (r q : ℕ) : Type 0 where
 
 -- everything that the loops over the runs from r up to before q read
 pub record RunsReady (net : Network) (table edges offsets bounds steps : List ℕ) (r q : ℕ) : Type 0 where
-  pub held : Held net table
+  pub held : EndTable net table
   pub placed : Placed net edges offsets (getD bounds q 0)
   pub runs : RunsOf edges bounds r q
   pub rising : Steps steps

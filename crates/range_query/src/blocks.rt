@@ -4,8 +4,9 @@ ghost use mathlib.Core.Path.{_≡_};
 ghost use Prim.Native.Nat.{pred, min, _+_, _-_, _*_, _≤_, _<_};
 ghost use lib.ListN.{length, getD};
 ghost use Rattle.model.specs.Network.{network};
+ghost use Rattle.prepare.specs.EndTable.{EndTable, TableEntry};
 ghost use Rattle.range_query.specs.Metres.{Ways, far, way, edgePair};
-ghost use Rattle.range_query.specs.Runs.{Apart, Block, Held, TableEntry, blockMetres, pairsWithin};
+ghost use Rattle.range_query.specs.Runs.{Apart, Block, blockMetres, pairsWithin};
 ghost use Rattle.range_query.specs.Tally.{Steps, Added, Room};
 use crate::metres::EdgePair;
 use crate::metres::lesser;
@@ -47,7 +48,7 @@ pub fn edge_pair(
     i: usize,
     j: usize,
 ) -> EdgePair
-    requires { ⌜ Held (network nodes (now firsts) (now seconds) (now lengths)) (now table) × (i < length (now lengths)) × (j < length (now lengths)) ⌝ }
+    requires { ⌜ EndTable (network nodes (now firsts) (now seconds) (now lengths)) (now table) × (i < length (now lengths)) × (j < length (now lengths)) ⌝ }
     ensures { λ r. ⌜ (r ≡ edgePair (network nodes (now (firsts .entry)) (now (seconds .entry)) (now (lengths .entry))) (now (table .entry)) i j) × Ways r ⌝ }
 {
     let first = firsts[i];

@@ -8,17 +8,13 @@ use borrow.Author.Tests.{lt-ltb, le-ltb, le-leb, lt-leb}
 use borrow.Rule.Slice.PartMut.{putMid, take-put}
 use lib.ListN.{length, getD, drop}
 use lib.Seq.{getD-take, getD-drop}
-use Rattle.model.proofs.Laws.Pieces.{part}
+use Rattle.model.proofs.Laws.Pieces.{part, part-length, part-at}
 use Rattle.model.proofs.Laws.Stretch.{before-edge, through-edge, having-part, rise-by-one}
 use Rattle.model.specs.Events.{having}
 use Rattle.count_augmentation.specs.Events.{LaidOut, RunEnds, EventsStored}
 use Rattle.count_augmentation.specs.Storing.{Rising, OnEdge, NumbersStored, atMost, atLeast}
 use Rattle.count_augmentation.proofs.Laws.Places.{count-before, stored-first, stored-second}
-use Rattle.count_augmentation.proofs.Laws.Storage.{RunCut, part-length, put-part, put-length}
-
--- what stands in a part
-part-at : (from to i : ℕ) (l : List ℕ) → i < to - from → getD (part from to l) i 0 ≡ getD l (from + i) 0
-part-at from to i l h = getD-take (to - from) (drop from l) i 0 h ∙ getD-drop from l i 0
+use Rattle.count_augmentation.proofs.Laws.Storage.{RunCut, put-part, put-length}
 
 -- what stands in front of a part that has been put back, and in it
 put-before : (a k : ℕ) (l new : List ℕ) (i : ℕ) → a ≤ length l → i < a → getD (putMid a k l new) i 0 ≡ getD l i 0

@@ -12,7 +12,7 @@ use Rattle.model.specs.Location.{at-first, at-second, endNode}
 use Rattle.model.specs.Network.{Network, edges, size}
 use Rattle.prepare.proofs.Laws.RunPairs.{run-is, run-codes, part-of-length}
 use Rattle.prepare.specs.RunPairs.{edgeOf, partOf, runPairs, RunsReady}
-use Rattle.count_augmentation.specs.Pairs.{edgePair, EndTable, reachedBy, reachedPairs, TwoRuns}
+use Rattle.count_augmentation.specs.Pairs.{edgePair, reachedBy, reachedPairs, TwoRuns}
 use Rattle.count_augmentation.specs.Reach.{reached}
 use Rattle.count_augmentation.specs.Runs.{RunStored}
 use Rattle.count_augmentation.specs.Storing.{OnEdge}
@@ -20,7 +20,7 @@ use Rattle.count_augmentation.specs.Totals.{Steps, ReadyAt, AddedAt}
 use Rattle.count_augmentation.specs.declared.pairs.EdgePair.{EdgePair}
 use Rattle.count_augmentation.proofs.Laws.Near.{reached-within}
 use Rattle.count_augmentation.proofs.Laws.Pairs.{no-pairs}
-use Rattle.count_augmentation.proofs.Laws.Places.{count-places}
+use Rattle.model.proofs.Laws.Arrival.{count-places}
 
 -- what is read for runs a and b: where each begins and ends, and the index of its edge
 pub record RunsRead (es bounds : List ℕ) (a b from to other-from other-to i j : ℕ) : Type 0 where
@@ -38,16 +38,6 @@ pub record Within (l : List ℕ) (from to : ℕ) : Type 0 where
   pub few : to ≤ maxEvents
 
 module _ {net : Network} {table es xs bounds : List ℕ} {r q t : ℕ} (w : RunsReady net table es xs bounds r q t) where
-  pub end-table : EndTable net table
-  end-table =
-      record {
-        firsts-length = w .firsts-length;
-        seconds-length = w .seconds-length;
-        nodes-to = w .nodes-to;
-        ends = w .ends;
-        room = w .table-room;
-      }
-
   -- a run's part of a list
   pub within-list : (l : List ℕ) (k from to : ℕ) → r ≤ k → k < q → getD bounds (suc k) 0 ≤ length l → from ≡ getD bounds k 0 → to ≡ getD bounds (k + 1) 0 → Within l from to
   within-list l k from to h m fits begins ends =

@@ -1,11 +1,12 @@
 -- What an event reaches by the table's entries is what lies within the threshold of it.
-use mathlib.Core.Bool.{Bool, true, false, not, _&&_, _||_}
-use mathlib.Core.Path.{_≡_, refl, sym, ap₂, _∙_}
-use Prim.Native.Nat.{ℕ, zero, suc, pred, _+_, _-_, _≤_, _<_, max}
+use mathlib.Core.Bool.{Bool, not, _&&_, _||_}
+use mathlib.Core.Path.{_≡_, sym, ap₂, _∙_}
+use Prim.Native.Nat.{ℕ, zero, suc, pred, _+_, _-_, _≤_, _<_}
 use native.Mathlib.Decide.{decLt}
 use native.Mathlib.Omega.{arith}
 use borrow.Author.Tests.{le-leb, lt-leb, lt-ltb, le-ltb}
 use lib.Dec.{eqb, leb, ltb, eqb·suc-zero}
+use Rattle.model.proofs.Laws.Arrival.{below-max, by-arrival}
 use Rattle.model.proofs.Laws.Routes.{event-within, reaches-code}
 use Rattle.model.specs.Distance.{Distance, within, code, difference}
 use Rattle.model.specs.Events.{Event, IsEvent}
@@ -29,23 +30,6 @@ within-reach t a (suc n) b = rw (eqb·suc-zero n) (go (decLt b (suc t - (a + n))
 -- the same for a distance and its entry
 reaches-entry : (t a : ℕ) (d : Distance) (b entry : ℕ) → entry ≡ code d → reaches t a d b ≡ ltb b (reachOf t a entry)
 reaches-entry t a d b entry e = reaches-code t a d b ∙ rw (← e) (within-reach t a entry b)
-
--- below the greater of two is below one of them
-below-max : (b r s : ℕ) → ltb b (max r s) ≡ (ltb b r || ltb b s)
-below-max b r s = go (decLt b r) (decLt b s)
-  where
-    go : Dec (b < r) → Dec (b < s) → ltb b (max r s) ≡ (ltb b r || ltb b s)
-    go (yes h) l = lt-ltb b (max r s) (omega arith) ∙ sym (simp (lt-ltb b r h))
-    go (no h) (yes l) = lt-ltb b (max r s) (omega arith) ∙ sym (simp (le-ltb b r (omega arith), lt-ltb b s l))
-    go (no h) (no l) = le-ltb b (max r s) (omega arith) ∙ sym (simp (le-ltb b r (omega arith), le-ltb b s (omega arith)))
-
--- the routes sorted by the end at which they arrive
-by-arrival : (a b c d w : Bool) → (((a || c) || (b || d)) || w) ≡ (((a || b) || (c || d)) || w)
-by-arrival true b c d w = refl
-by-arrival false true true d w = refl
-by-arrival false true false d w = refl
-by-arrival false false true d w = refl
-by-arrival false false false d w = refl
 
 -- the entries between the ends of two edges are those of distances bounded by no less than the threshold
 module _ (net : Network) (ends : EndsAreNodes net) (t bound : ℕ) (within-bound : t ≤ bound) (e f : Event) (on-e : IsEvent net e) (on-f : IsEvent net f) where

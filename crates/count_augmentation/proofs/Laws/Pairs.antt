@@ -1,30 +1,19 @@
--- Two runs: the table entries between their edges' ends, and bounds on what their events reach.
+-- Two runs: bounds on what their events reach.
 use mathlib.Core.Bool.{Bool, false}
 use mathlib.Core.List.{List}
 use mathlib.Core.Path.{_≡_, refl, sym, _∙_}
 use Prim.Native.Nat.{ℕ, zero, suc, _+_, _-_, _*_, _≤_, _<_}
-use native.Mathlib.Nat.{mul-le-mul, mul-le-mul-right, suc-mul}
-use native.Mathlib.Numerals.{add-one}
+use native.Mathlib.Nat.{suc-mul}
 use native.Mathlib.Omega.{arith}
 use lib.Dec.{eqb·suc-zero}
 use lib.ListN.{length, getD}
 use Rattle.model.proofs.Laws.Counting.{count-at-most, sum-below-zero, sum-below-cong}
 use Rattle.model.specs.Counting.{sumBelow}
-use Rattle.model.specs.Network.{Network, IsNode}
-use Rattle.count_augmentation.specs.Pairs.{EndTable, reachedBy, reachedPairs}
+use Rattle.count_augmentation.specs.Pairs.{reachedBy, reachedPairs}
 use Rattle.count_augmentation.specs.Reach.{reachOf, farthest, reached}
 use Rattle.count_augmentation.specs.Storing.{OnEdge}
 use Rattle.count_augmentation.specs.declared.pairs.EdgePair.{EdgePair}
 use Rattle.count_augmentation.proofs.Laws.Reach.{nothing-reached, all-from-first, all-from-second}
-
--- the entry of two nodes lies within a square table, which is no larger than the greatest one
-pub in-square : (nodes k l : ℕ) → k < nodes → l < nodes → k * nodes + l < nodes * nodes
-in-square nodes k l h m =
-    let row : suc k * nodes ≤ nodes * nodes = mul-le-mul-right nodes h in
-    omega (arith, suc-mul k nodes)
-
-pub square-small : (nodes : ℕ) → nodes ≤ 512 → nodes * nodes ≤ 262144
-square-small nodes h = omega (arith, mul-le-mul h h)
 
 -- a greater gap reaches no farther
 reach-none : (t a entry : ℕ) → reachOf t 0 entry ≡ 0 → reachOf t a entry ≡ 0
@@ -104,15 +93,6 @@ module _ (g : EdgePair) (t : ℕ) where
   pub no-pairs : (xs ys : List ℕ) → ((x : ℕ) (ys : List ℕ) → reachedBy g t x ys ≡ 0) → 0 ≡ reachedPairs g t xs ys
   unfolding reachedPairs
   no-pairs xs ys none = sym (sum-below-zero (length xs) _ (λ i h. none (getD xs i 0) ys))
-
--- one term more of a sum, as the code counts
-pub sum-next : (f : ℕ → ℕ) (n : ℕ) → sumBelow (n + 1) f ≡ sumBelow n f + f n
-unfolding sumBelow
-sum-next f n = rw (add-one n)
-
--- two nodes have an entry
-pub has-entry : (net : Network) (table : List ℕ) (u v : ℕ) → EndTable net table → IsNode net u → IsNode net v → (1 ≤ u) × (u ≤ net .nodes) × (1 ≤ v) × (v ≤ net .nodes) × (net .nodes ≤ 512) × (net .nodes * net .nodes ≤ length table)
-has-entry net table u v ok nu nv = (nu .from-one, nu .to-nodes, nv .from-one, nv .to-nodes, ok .nodes-to, ok .room)
 
 -- two edges with equal entries
 pub same-pair : {p q ff fs sf ss ff′ fs′ sf′ ss′ : ℕ} {same : Bool} → ff ≡ ff′ → fs ≡ fs′ → sf ≡ sf′ → ss ≡ ss′ → _≡_ {A = EdgePair} (record { size = p; other = q; firsts = ff; onward = fs; back = sf; seconds = ss; same = same }) (record { size = p; other = q; firsts = ff′; onward = fs′; back = sf′; seconds = ss′; same = same })

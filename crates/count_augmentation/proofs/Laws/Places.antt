@@ -8,7 +8,7 @@ use native.Mathlib.Omega.{arith}
 use borrow.Author.Tests.{le-leb, lt-leb, lt-ltb, le-ltb}
 use lib.Dec.{leb, ltb}
 use lib.ListN.{length, getD}
-use Rattle.model.proofs.Laws.Counting.{count-below-list, count-below-cong}
+use Rattle.model.proofs.Laws.Arrival.{count-places}
 use Rattle.model.specs.Counting.{one-if, countIf}
 use Rattle.model.specs.Location.{at-first, at-second, gap}
 use Rattle.count_augmentation.specs.Augmented.{noFarther}
@@ -70,10 +70,6 @@ at-place xs near limit place parted = ap (λ (k : ℕ). getD near k 0) (sym (pla
 pub count-after : (test : ℕ → Bool) (xs : List ℕ) (place : ℕ) → place ≤ length xs → ((k : ℕ) → k < place → test (getD xs k 0) ≡ false) → ((k : ℕ) → place ≤ k → k < length xs → test (getD xs k 0) ≡ true) → countIf test xs ≡ length xs - place
 count-after test xs place h off on =
     omega (arith, count-not test xs, count-before (λ x. not (test x)) xs place h (λ k l. ap not (off k l)) (λ k l m. ap not (on k l m)))
-
--- tests that agree at every place of a list count the same
-pub count-places : (f g : ℕ → Bool) (xs : List ℕ) → ((k : ℕ) → k < length xs → f (getD xs k 0) ≡ g (getD xs k 0)) → countIf f xs ≡ countIf g xs
-count-places f g xs same = sym (count-below-list 0 f xs) ∙ count-below-cong (length xs) _ _ same ∙ count-below-list 0 g xs
 
 module _ (xs : List ℕ) (rising : Rising xs) where
   -- the offset at a place is the last of its kind: as many are at most that offset as stand up to it

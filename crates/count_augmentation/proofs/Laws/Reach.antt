@@ -3,11 +3,12 @@ use mathlib.Core.Bool.{Bool, true, false, not, _&&_, _||_}
 use mathlib.Core.List.{List}
 use mathlib.Core.Path.{_≡_, refl, sym, ap₂, _∙_}
 use Prim.Native.Nat.{ℕ, suc, _+_, _-_, _≤_, _<_, min, max}
-use native.Mathlib.Decide.{decLe, decLt}
+use native.Mathlib.Decide.{decLt}
 use native.Mathlib.Omega.{arith}
 use borrow.Author.Tests.{le-leb, lt-leb, lt-ltb, le-ltb, leb-true, leb-false, ltb-true, ltb-false, not-true}
 use lib.Dec.{leb, ltb}
 use lib.ListN.{length, getD}
+use Rattle.model.proofs.Laws.Arrival.{in-window, no-place}
 use Rattle.model.proofs.Laws.Counting.{count-mono, count-at-most}
 use Rattle.model.proofs.Laws.Cover.{cover-list, first-places, last-places}
 use Rattle.model.specs.Counting.{countIf}
@@ -42,24 +43,6 @@ second-limit q s y h = go (decLt (q - y) s)
     go : Dec (q - y < s) → ltb (q - y) s ≡ leb (suc q - s) y
     go (yes l) = lt-ltb (q - y) s l ∙ sym (le-leb (suc q - s) y (omega arith))
     go (no l) = le-ltb (q - y) s (omega arith) ∙ sym (lt-leb (suc q - s) y (omega arith))
-
--- the window around x
-in-window : (x y t : ℕ) → leb (difference x y) t ≡ (leb (x - t) y && ltb y (x + t + 1))
-unfolding difference
-in-window x y t = go (decLe (x - t) y) (decLt y (x + t + 1))
-  where
-    go : Dec (x - t ≤ y) → Dec (y < x + t + 1) → leb ((x - y) + (y - x)) t ≡ (leb (x - t) y && ltb y (x + t + 1))
-    go (yes l) (yes m) = simp (le-leb (x - t) y l, lt-ltb y (x + t + 1) m) (le-leb ((x - y) + (y - x)) t (omega arith))
-    go (yes l) (no m) = simp (le-leb (x - t) y l, le-ltb y (x + t + 1) (omega arith)) (lt-leb ((x - y) + (y - x)) t (omega arith))
-    go (no l) m = simp (lt-leb (x - t) y (omega arith)) (lt-leb ((x - y) + (y - x)) t (omega arith))
-
--- no place is both from p on and before p
-no-place : (p k : ℕ) → false ≡ (leb p k && ltb k p)
-no-place p k = go (decLe p k)
-  where
-    go : Dec (p ≤ k) → false ≡ (leb p k && ltb k p)
-    go (yes l) = simp (le-leb p k l, le-ltb k p l)
-    go (no l) = simp (lt-leb p k (omega arith))
 
 no-gap : (m k : ℕ) → min m k - m ≡ 0
 no-gap m k = omega arith

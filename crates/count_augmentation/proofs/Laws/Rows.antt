@@ -1,11 +1,12 @@
 -- The row of a set: its runs can be stored, and a row filled threshold by threshold is the set's.
-use mathlib.Core.List.{List, [], _∷_, map}
-use mathlib.Core.Path.{_≡_, refl, sym, ap, _∙_}
-use Prim.Native.Nat.{ℕ, zero, suc, _+_, _-_, _*_, _≤_, _<_}
+use mathlib.Core.List.{List, map}
+use mathlib.Core.Path.{_≡_, sym, ap, _∙_}
+use Prim.Native.Nat.{ℕ, _+_, _-_, _*_, _≤_, _<_}
 use native.Mathlib.Omega.{arith}
 use lib.ListN.{length, getD, length-map, replicate, length-replicate, getD-replicate}
 use lib.Seq.{ext-getD}
 use Rattle.model.proofs.Laws.Checks.{ThresholdsAccepted}
+use Rattle.model.proofs.Laws.Lists.{map-at}
 use Rattle.model.specs.Limits.{maxEvents}
 use Rattle.model.specs.Network.{Network}
 use Rattle.prepare.proofs.Laws.RunPairs.{run-is}
@@ -35,11 +36,6 @@ runs-storable w near-first near-second first-room second-room =
             rising = record { up = run-is w k h l .rising };
           };
     }
-
-map-at : (f : ℕ → ℕ) (l : List ℕ) (k : ℕ) → k < length l → getD (map f l) k 0 ≡ f (getD l k 0)
-map-at f [] k h = absurd (omega arith)
-map-at f (x ∷ l) zero h = refl
-map-at f (x ∷ l) (suc k) h = map-at f l k (omega arith)
 
 -- what the code leaves of a total
 unfoldable pub leftOf : List ℕ → ℕ → ℕ → List ℕ → List ℕ → ℕ → ℕ

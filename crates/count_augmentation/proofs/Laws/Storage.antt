@@ -9,7 +9,7 @@ use native.Mathlib.Omega.{arith}
 use borrow.Rule.Slice.PartMut.{putMid, take-put, same-len-mid}
 use lib.ListN.{length, getD, take, drop, length-take, length-drop, length-append}
 use lib.Seq.{take-at, drop-at, length-take-le}
-use Rattle.model.proofs.Laws.Pieces.{rise}
+use Rattle.model.proofs.Laws.Pieces.{part-length, rise}
 use Rattle.model.specs.Limits.{maxEvents}
 use Rattle.prepare.proofs.Laws.RunEvents.{part-front}
 use Rattle.prepare.specs.RunPairs.{partOf}
@@ -25,10 +25,6 @@ put-part a k l part h e =
 pub kept-part : (a k : ℕ) (l part : List ℕ) (b m : ℕ) → a ≤ length l → b + m ≤ a → take m (drop b (putMid a k l part)) ≡ take m (drop b l)
 kept-part a k l part b m h u =
     sym (part-front m b a (putMid a k l part) u) ∙ ap (λ (r : List ℕ). take m (drop b r)) (take-put a k l part h) ∙ part-front m b a l u
-
--- a part is as long as it says
-pub part-length : (a b : ℕ) (l : List ℕ) → b ≤ length l → length (take (b - a) (drop a l)) ≡ b - a
-part-length a b l h = simp (length-take, length-drop) (omega arith)
 
 -- a part is as long as it was, for the whole is
 pub put-length : (from to : ℕ) (l part : List ℕ) → from ≤ to → to ≤ length l → length (putMid from (to - from) l part) ≡ length l → length part ≡ to - from

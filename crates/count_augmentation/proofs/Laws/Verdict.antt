@@ -7,9 +7,9 @@ use native.Mathlib.Decide.{decLe}
 use native.Mathlib.Omega.{arith}
 use borrow.Author.Tests.{le-leb, lt-leb, leb-true, lt-ltb, le-ltb, eq-eqb}
 use lib.ListN.{length, getD}
-use Rattle.model.proofs.Laws.CheckParts.{sizes-accepted, order-accepted}
+use Rattle.model.proofs.Laws.CheckParts.{lists-first, sizes-accepted, order-accepted}
 use Rattle.model.proofs.Laws.Checks.{LaidOutAccepted, laid-out-accepted}
-use Rattle.model.proofs.Laws.Refusal.{or-else-next, or-else-refused, unless-accepts, unless-refuses, unless-accepted, both-accepted, true-between}
+use Rattle.model.proofs.Laws.Refusal.{or-else-next, or-else-refused, two-or-accepted, unless-accepts, unless-refuses, unless-accepted, both-accepted, true-between}
 use Rattle.model.proofs.Laws.Stretch.{laid-out-rise}
 use Rattle.model.specs.Checks.{sameLength, networkLists, eventLists, roomCheck, networkValues, loneEdgeCheck, laidOutCheck}
 use Rattle.model.specs.Events.{Event, event, before}
@@ -17,7 +17,6 @@ use Rattle.model.specs.Network.{Network, edges}
 use Rattle.model.specs.Refusal.{orElse, listsDiffer, noEdge}
 use Rattle.model.specs.declared.check.Check.{Check}
 use Rattle.model.specs.declared.check.Check.the-variants.{Accepted, Refused}
-use Rattle.prepare.proofs.Laws.Verdict.{two-or-accepted, or-else-assoc}
 use Rattle.count_augmentation.specs.Augmented.{augmentCheck}
 use Rattle.count_augmentation.specs.Events.{LaidOut}
 
@@ -46,9 +45,8 @@ has-edge net e =
 module _ (net : Network) (es xs near-first near-second : List ℕ) where
   -- too little room is refused, whatever the lengths of the lists
   refused-behind : (rest : Check) → rest ≡ Refused listsDiffer 0 → orElse (networkLists net) (orElse (eventLists es xs) rest) ≡ Refused listsDiffer 0
-  unfolding networkLists eventLists sameLength
-  refused-behind rest e =
-      or-else-assoc _ _ _ ∙ two-or-accepted _ _ (two-or-accepted _ _ (two-or-accepted _ _ e))
+  unfolding eventLists sameLength
+  refused-behind rest e = lists-first net (two-or-accepted _ _ e)
 
   pub no-room-first : length near-first < length es → Refused listsDiffer 0 ≡ augmentCheck net es xs near-first near-second
   unfolding augmentCheck roomCheck

@@ -1,18 +1,19 @@
 -- What acceptance by the check of each number means.
 use mathlib.Core.Bool.{true, false}
 use mathlib.Core.List.{List, [], _∷_}
-use mathlib.Core.Path.{_≡_}
+use mathlib.Core.Path.{_≡_, _∙_}
 use Prim.Native.Nat.{ℕ, suc, pred, _≤_, _<_}
 use native.Mathlib.Omega.{arith}
 use borrow.Author.Tests.{eqb-true, eqb-false, eq-eqb, ne-eqb, leb-true, ltb-true, not-true}
 use lib.ListN.{length, getD}
-use Rattle.model.proofs.Laws.Refusal.{Between, both-accepted, both-accept, both-true, unless-accepted, unless-accepts, between-true, true-between, good-at, good-below, below-good}
-use Rattle.model.specs.Checks.{sameLength, sizesCheck, nodesCheck, selfCheck, lengthsCheck, setsCheck, edgesCheck, offsetsCheck, eventsCheck, equalSetsCheck, orderCheck, thresholdCountCheck, risingCheck, loneNodeCheck, loneEdgeCheck, loneOffsetCheck, networkLists, eventLists, setLists}
+use Rattle.model.proofs.Laws.Refusal.{Between, both-accepted, both-accept, both-true, or-else-assoc, two-or-accepted, unless-accepted, unless-accepts, between-true, true-between, good-at, good-below, below-good}
+use Rattle.model.specs.Checks.{sameLength, roomCheck, sizesCheck, nodesCheck, selfCheck, lengthsCheck, setsCheck, edgesCheck, offsetsCheck, eventsCheck, equalSetsCheck, orderCheck, thresholdCountCheck, risingCheck, loneNodeCheck, loneEdgeCheck, loneOffsetCheck, networkLists, eventLists, setLists}
 use Rattle.model.specs.Events.{event, events, InOrder, empty, one, more, before, setSize, greatestSet}
 use Rattle.model.specs.Limits.{maxNodes, maxEdges, maxLength, maxEvents, maxSet, maxThresholds}
 use Rattle.model.specs.Network.{Network, IsNode, EndsAreNodes, edges, first, second, size}
-use Rattle.model.specs.Refusal.{isBetween, listsDiffer, badSizes, badNode, selfJoined, badLength, badSet, noEdge, beyondEdge, tooManyEvents, unequalSets, notInOrder, badThresholds, notRising}
-use Rattle.model.specs.declared.check.Check.the-variants.{Accepted}
+use Rattle.model.specs.Refusal.{orElse, isBetween, listsDiffer, badSizes, badNode, selfJoined, badLength, badSet, noEdge, beyondEdge, tooManyEvents, unequalSets, notInOrder, badThresholds, notRising}
+use Rattle.model.specs.declared.check.Check.{Check}
+use Rattle.model.specs.declared.check.Check.the-variants.{Accepted, Refused}
 
 -- 2: the lists have one length
 pub same-length-accepted : (xs ys : List ℕ) → sameLength xs ys ≡ Accepted → length xs ≡ length ys
@@ -32,6 +33,16 @@ lists-accepted net e =
 pub lists-accept : (net : Network) → length (net .firsts) ≡ edges net → length (net .seconds) ≡ edges net → networkLists net ≡ Accepted
 unfolding networkLists
 lists-accept net f s = both-accept (same-length-accepts _ _ f) (same-length-accepts _ _ s)
+
+-- 2 is 2, whichever list it is for
+pub lists-first : (net : Network) {rest : Check} → rest ≡ Refused listsDiffer 0 → orElse (networkLists net) rest ≡ Refused listsDiffer 0
+unfolding networkLists sameLength
+lists-first net e = or-else-assoc _ _ _ ∙ two-or-accepted _ _ (two-or-accepted _ _ e)
+
+-- an answer list has room for so many entries
+pub room-accepted : (n : ℕ) (answers : List ℕ) → roomCheck n answers ≡ Accepted → n ≤ length answers
+unfolding roomCheck
+room-accepted n answers e = leb-true _ _ (unless-accepted _ listsDiffer 0 e)
 
 pub set-lists-accepted : (sets es xs : List ℕ) → setLists sets es xs ≡ Accepted → (length sets ≡ length es) × (length es ≡ length xs)
 unfolding setLists eventLists

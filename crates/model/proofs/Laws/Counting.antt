@@ -1,9 +1,10 @@
 -- Laws of sums and counts, below a bound and over a list.
 use mathlib.Core.Bool.{Bool, true, false, not, _&&_}
-use mathlib.Core.List.{List, [], _∷_, _++_}
+use mathlib.Core.List.{List, [], _∷_, _++_, map}
 use mathlib.Core.Path.{_≡_, refl, sym, ap, ap₂, _∙_}
 use Prim.Native.Nat.{ℕ, zero, suc, _+_, _≤_, _<_}
 use native.Mathlib.Decide.{ℕ-discrete}
+use native.Mathlib.Numerals.{add-one}
 use native.Mathlib.Omega.{arith}
 use borrow.Author.Tests.{eq-eqb, ne-eqb}
 use lib.Dec.{eqb}
@@ -57,6 +58,11 @@ pub sum-below-zero : (n : ℕ) (f : ℕ → ℕ) → ((i : ℕ) → i < n → f 
 unfolding sumBelow
 sum-below-zero zero f h = refl
 sum-below-zero (suc n) f h = omega (arith, sum-below-zero n f (λ i l. h i (omega arith)), h n (omega arith))
+
+-- the last number apart
+pub sum-next : (f : ℕ → ℕ) (n : ℕ) → sumBelow (n + 1) f ≡ sumBelow n f + f n
+unfolding sumBelow
+sum-next f n = rw (add-one n)
 
 -- a sum taken from its first term
 pub sum-below-first : (n : ℕ) (f : ℕ → ℕ) → sumBelow (suc n) f ≡ f 0 + sumBelow n (λ i. f (suc i))
@@ -154,6 +160,12 @@ module _ {A : Type 0} where
   pub count-below-list : (d : A) (test : A → Bool) (xs : List A) → countBelow (length xs) (λ i. test (getD xs i d)) ≡ countIf test xs
   unfolding countBelow
   count-below-list d test xs = sum-below-list d (λ x. one-if (test x)) xs ∙ sym (count-sum test xs)
+
+-- what is counted among the elements that h makes
+pub count-map : {A B : Type 0} (test : B → Bool) (h : A → B) (xs : List A) → countIf test (map h xs) ≡ countIf (λ x. test (h x)) xs
+unfolding countIf
+count-map test h [] = refl
+count-map test h (x ∷ xs) = ap (λ (n : ℕ). one-if (test (h x)) + n) (count-map test h xs)
 
 -- a count over successive numbers is a count below their number
 pub count-numbers : (test : ℕ → Bool) (start n : ℕ) → countIf test (numbersFrom start n) ≡ countBelow n (λ i. test (start + i))

@@ -1,4 +1,4 @@
--- Laws of lists with no repeats, of rearranged lists, of successive numbers and of the elements that pass a test.
+-- Laws of lists with no repeats, of rearranged lists, of successive numbers, of the elements that pass a test and of those made of others.
 use mathlib.Core.Bool.{Bool, true, false, cond, false≢true}
 use mathlib.Core.List.{List, [], _∷_, _++_, map, List·Memᴰ, List·Memᴰ·head, List·Memᴰ·tail, List·Memᴰ·not-nil, List·Memᴰ·cases-cons, List·Memᴰ·append-cases, Memᴰ·cast, Memᴰ·of-map}
 use mathlib.Core.Logic.{_⊎_, inl, inr, ⊎-elim}
@@ -6,7 +6,7 @@ use mathlib.Core.Path.{_≡_, refl, sym, ap, _∙_}
 use Prim.Native.Nat.{ℕ, zero, suc, _+_, _≤_, _<_}
 use native.Mathlib.Decide.{ℕ-discrete}
 use native.Mathlib.Omega.{arith}
-use lib.ListN.{length}
+use lib.ListN.{length, getD}
 use Rattle.model.specs.Counting.{one-if, countIf, numbersFrom, NoRepeats, no-element, one-more, Rearranged, nothing, keep, swap, chain}
 
 module _ {A : Type 0} where
@@ -147,3 +147,9 @@ pub numbers-length : (start n : ℕ) → length (numbersFrom start n) ≡ n
 unfolding numbersFrom
 numbers-length start zero = refl
 numbers-length start (suc n) = ap suc (numbers-length (suc start) n)
+
+-- what a function makes of the element at a place
+pub map-at : (f : ℕ → ℕ) (l : List ℕ) (k : ℕ) → k < length l → getD (map f l) k 0 ≡ f (getD l k 0)
+map-at f [] k h = absurd (omega arith)
+map-at f (x ∷ l) zero h = refl
+map-at f (x ∷ l) (suc k) h = map-at f l k (omega arith)

@@ -1,5 +1,5 @@
 -- The pair count: what it counts, that it grows with the threshold, and that the order of the events does not matter.
-use mathlib.Core.Bool.{Bool, true, false, not, _&&_, false≢true}
+use mathlib.Core.Bool.{Bool, true, false, not, _&&_}
 use mathlib.Core.List.{List, [], _∷_, List·Memᴰ}
 use mathlib.Core.Path.{_≡_, refl, sym, ap, ap₂, _∙_}
 use Prim.Native.Nat.{ℕ, _+_, _≤_, _<_}
@@ -14,16 +14,12 @@ use Rattle.model.specs.Events.{Event, event, eventLocation}
 use Rattle.model.specs.PairCount.{eventAt, eventDistance, isPair, pairCount, Pair, Joined, CountsJoined}
 use Rattle.model.proofs.Laws.Counting.{sumOver, sum-below-cong, sum-below-mono, sum-below-add, sum-below-one, sum-below-list, sum-over-cong, sum-over-rearranged, count-below-cong, count-below-mono, count-but-one, count-below-list, count-rearranged, count-numbers}
 use Rattle.model.proofs.Laws.Lists.{rearranged-length, numbers-only, numbers-hold, numbers-no-repeats, passing, passing-length, passing-only, passing-holds, passing-no-repeats}
+use Rattle.model.proofs.Laws.Refusal.{both-true}
 use Rattle.model.proofs.Laws.Rows.{rows, rows-only, rows-hold, rows-length, rows-no-repeats}
 use Rattle.model.proofs.Laws.Distance.{le-refl}
 use Rattle.model.proofs.Laws.Within.{within-monotone}
 use Rattle.model.proofs.Laws.Least.{within-walk, walk-within}
 use Rattle.model.proofs.Laws.Location.{location-distance, location-self}
-
--- both of two tests hold
-both-true : (a b : Bool) → (a && b) ≡ true → (a ≡ true) × (b ≡ true)
-both-true true b e = (refl, e)
-both-true false b e = absurd (false≢true e)
 
 -- the pair of two positions
 pair : ℕ → ℕ → Pair

@@ -4,13 +4,24 @@ use mathlib.Core.Path.{_≡_, _∙_, refl, sym, ap, ap₂, subst}
 use Prim.Native.Nat.{ℕ, zero, suc, _+_, _-_, _≤_, _<_}
 use native.Mathlib.Nat.{add-zero, add-suc, le-trans}
 use native.Mathlib.Omega.{arith}
-use lib.ListN.{length, getD, take, drop}
-use lib.Seq.{take-add, drop-drop}
+use lib.ListN.{length, getD, take, drop, length-take, length-drop}
+use lib.Seq.{take-add, drop-drop, getD-take, getD-drop}
 use Rattle.model.specs.Counting.{sumBelow}
 
 -- the part of a list from place a up to before place b, as `&s[a..b]` reads
 abbrev pub part : {A : Type 0} → ℕ → ℕ → List A → List A
 part a b l = take (b - a) (drop a l)
+
+-- it is as long as its places say
+pub part-length : (a b : ℕ) (l : List ℕ) → b ≤ length l → length (part a b l) ≡ b - a
+part-length a b l h = simp (length-take, length-drop) (omega arith)
+
+pub part-long : (a n : ℕ) (l : List ℕ) → a + n ≤ length l → length (part a (a + n) l) ≡ n
+part-long a n l h = part-length a (a + n) l h ∙ omega arith
+
+-- and has the list's elements
+pub part-at : (a b k : ℕ) (l : List ℕ) → k < b - a → getD (part a b l) k 0 ≡ getD l (a + k) 0
+part-at a b k l h = getD-take (b - a) (drop a l) k 0 h ∙ getD-drop a l k 0
 
 -- two parts that meet are one
 pub part-join : {A : Type 0} (a b c : ℕ) (l : List A) → a ≤ b → b ≤ c → part a c l ≡ part a b l ++ part b c l

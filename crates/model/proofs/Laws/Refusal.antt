@@ -8,7 +8,7 @@ use native.Mathlib.Omega.{arith}
 use borrow.Author.Count.{below-more}
 use borrow.Author.Tests.{le-leb, leb-true}
 use lib.Dec.{leb}
-use Rattle.model.specs.Refusal.{orElse, unless, firstBad, firstBadFrom, isBetween}
+use Rattle.model.specs.Refusal.{orElse, unless, firstBad, firstBadFrom, isBetween, listsDiffer}
 use Rattle.model.specs.declared.check.Check.{Check}
 use Rattle.model.specs.declared.check.Check.the-variants.{Accepted, Refused}
 
@@ -43,6 +43,18 @@ both-accepted (Refused n p) b e = not-accepted e
 -- and back
 pub both-accept : {a b : Check} → a ≡ Accepted → b ≡ Accepted → orElse a b ≡ Accepted
 both-accept {a} {b} ha hb = or-else-next b ha ∙ hb
+
+-- three checks may be joined from either end
+pub or-else-assoc : (a b c : Check) → orElse (orElse a b) c ≡ orElse a (orElse b c)
+unfolding orElse
+or-else-assoc Accepted b c = refl
+or-else-assoc (Refused n p) b c = refl
+
+-- a check that either accepts or refuses with 2 at 0, in front of one that refuses so
+pub two-or-accepted : (b : Bool) (next : Check) → next ≡ Refused listsDiffer 0 → orElse (unless b listsDiffer 0) next ≡ Refused listsDiffer 0
+unfolding orElse unless
+two-or-accepted true next e = e
+two-or-accepted false next e = refl
 
 -- the test holds where it is accepted
 pub unless-accepted : (good : Bool) (number place : ℕ) → unless good number place ≡ Accepted → good ≡ true

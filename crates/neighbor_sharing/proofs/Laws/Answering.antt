@@ -10,7 +10,6 @@ use Rattle.layout.specs.Stretch.{StretchAnswered, stretchOf}
 use Rattle.model.proofs.Laws.Checks.{LaidOutAccepted, laid-out-accepted, network-accepts}
 use Rattle.model.specs.Answer.{written}
 use Rattle.model.specs.Checks.{laidOutCheck}
-use Rattle.model.specs.Distance.{Distance, metres, none, code}
 use Rattle.model.specs.Events.{having}
 use Rattle.model.specs.Location.{Side, at-first, at-second, endNode}
 use Rattle.model.specs.Network.{Network}
@@ -18,16 +17,12 @@ use Rattle.model.specs.NodeDistance.{boundedDistance}
 use Rattle.model.specs.declared.check.Check.{Check}
 use Rattle.model.specs.declared.check.Check.the-variants.{Accepted, Refused}
 use Rattle.neighbor_sharing.proofs.Laws.AnsweringCheck.{CursorsAccepted}
+use Rattle.neighbor_sharing.proofs.Laws.Apart.{decoded-code}
 use Rattle.neighbor_sharing.proofs.Laws.OnEdges.{laid-on-edge}
 use Rattle.neighbor_sharing.specs.Answers.{cursorsCheck, cursorPositions, cursorMoves, routePositions, routeMoves, CursorsAnswered}
 use Rattle.neighbor_sharing.specs.Asked.{TwoEdges, EdgesFound, CursorsWritten}
 use Rattle.neighbor_sharing.specs.Six.{routeMarks, routeSum, windowMarks, windowSum, sixMarks, sixSums, decoded, distanceBetween, EdgesSweepable, EdgesSwept}
 use Rattle.neighbor_sharing.specs.declared.sweep.Edges.{Edges}
-
-decoded-code : (d : Distance) → decoded (code d) ≡ d
-unfolding decoded code
-decoded-code (metres n) = refl
-decoded-code none = refl
 
 -- indices are the same where the numbers are
 same-number : (e f : ℕ) → 1 ≤ e → 1 ≤ f → eqb (pred e) (pred f) ≡ eqb e f

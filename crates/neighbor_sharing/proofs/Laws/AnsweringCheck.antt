@@ -7,6 +7,7 @@ use native.Mathlib.Omega.{arith}
 use borrow.Author.Tests.{le-leb, lt-leb, leb-true, eq-eqb, ne-eqb}
 use lib.Dec.{eqb, leb}
 use lib.ListN.{length}
+use Rattle.model.proofs.Laws.CheckParts.{lists-first}
 use Rattle.model.proofs.Laws.Refusal.{or-else-next, both-accepted, both-accept, both-true, unless-accepted, unless-accepts}
 use Rattle.model.specs.Checks.{sameLength, roomCheck, loneEdgeCheck, loneOffsetCheck, networkLists, eventLists, networkValues, networkCheck, locationsOverNetworkCheck, eventValues, orderCheck, laidOutCheck}
 use Rattle.model.specs.Events.{having, setSize}
@@ -17,7 +18,7 @@ use Rattle.model.specs.declared.check.Check.the-variants.{Accepted, Refused}
 use Rattle.neighbor_sharing.specs.Answers.{cursorsCheck}
 use Rattle.neighbor_sharing.specs.Asked.{hasRooms}
 use Rattle.prepare.proofs.Laws.Groups.{having-length}
-use Rattle.prepare.proofs.Laws.Verdict.{two-or-accepted, or-else-assoc, quotient-test}
+use Rattle.prepare.proofs.Laws.Verdict.{quotient-test}
 
 -- one of three tests that refuse alike fails
 one-of-three : (a b c : Bool) (rest : Check) → a && (b && c) ≡ false → orElse (unless a listsDiffer 0) (orElse (unless b listsDiffer 0) (orElse (unless c listsDiffer 0) rest)) ≡ Refused listsDiffer 0
@@ -67,8 +68,8 @@ module _ (es xs : List ℕ) (e : ℕ) (ps ms : List ℕ) where
 module _ (net : Network) (es xs : List ℕ) (e f : ℕ) (ps ms : List ℕ) where
   -- too little room, or lists that differ, whatever the network
   pub no-rooms : hasRooms es xs e ps ms ≡ false → Refused listsDiffer 0 ≡ cursorsCheck net es xs e f ps ms
-  unfolding hasRooms cursorsCheck networkLists eventLists sameLength roomCheck
-  no-rooms h = sym (or-else-assoc _ _ _ ∙ two-or-accepted _ _ (two-or-accepted _ _ (one-of-three _ _ _ _ h)))
+  unfolding hasRooms cursorsCheck eventLists sameLength roomCheck
+  no-rooms h = sym (lists-first net (one-of-three _ _ _ _ h))
 
   two-edges : locationsOverNetworkCheck net e 0 f 0 ≡ orElse (orElse (networkLists net) (networkValues Accepted net)) (orElse (loneEdgeCheck net e) (loneEdgeCheck net f))
   unfolding locationsOverNetworkCheck networkCheck

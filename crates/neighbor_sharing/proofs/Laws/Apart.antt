@@ -1,44 +1,21 @@
--- Two edges: their entries in the table, and that nothing is reached where no route without gaps is within the threshold.
+-- Two edges: the codes between their ends, and that nothing is reached where no route without gaps is within the threshold.
 use mathlib.Core.Bool.{Bool, true, false, _&&_, _||_, true≢false}
-use mathlib.Core.List.{List}
 use mathlib.Core.Path.{_≡_, _∙_, refl, sym, ap}
-use Prim.Native.Nat.{ℕ, zero, suc, pred, _+_, _-_, _*_, _≤_, _<_}
-use native.Mathlib.Nat.{mul-le-mul}
-use native.Mathlib.Numerals.{sub-one}
+use Prim.Native.Nat.{ℕ, zero, suc, _+_, _-_, _≤_}
 use native.Mathlib.Omega.{arith}
 use lib.Dec.{leb}
-use Rattle.model.specs.Distance.{Distance, plus, within}
+use Rattle.model.specs.Distance.{Distance, metres, none, code, plus, within}
 use Rattle.model.specs.Location.{Side, at-first, at-second, gap, reaches}
-use Rattle.model.specs.Network.{Network, IsNode}
 use Rattle.neighbor_sharing.proofs.Laws.Positions.{reaches-less}
-use Rattle.neighbor_sharing.proofs.Laws.Reading.{in-rows}
 use Rattle.neighbor_sharing.specs.Joined.{reachedBy, isReached}
-use Rattle.neighbor_sharing.specs.Runs.{TableEntry, Held}
 use Rattle.neighbor_sharing.specs.Six.{decoded, codeBetween, distanceBetween}
 use Rattle.neighbor_sharing.specs.declared.sweep.Edges.{Edges}
 
--- the entry of two nodes lies within a square table, which is no larger than the greatest one
-pub in-square : {nodes : ℕ} {table : List ℕ} {u v : ℕ} → TableEntry nodes table u v → (u - 1) * nodes + (v - 1) < nodes * nodes
-in-square {nodes} {u = u} {v = v} e =
-    in-rows nodes nodes (u - 1) (v - 1) (omega (arith, e .u-from, e .u-to)) (omega (arith, e .v-from, e .v-to))
-
-pub square-small : {nodes : ℕ} {table : List ℕ} {u v : ℕ} → TableEntry nodes table u v → nodes * nodes ≤ 262144
-square-small e = omega (arith, mul-le-mul (e .nodes-to) (e .nodes-to))
-
-pub place-as : (u v n : ℕ) → (u - 1) * n + (v - 1) ≡ pred u * n + pred v
-place-as u v n = simp sub-one
-
--- the ends of the network's edges are such nodes
-pub held-entry : {net : Network} {table : List ℕ} {u v : ℕ} → Held net table → IsNode net u → IsNode net v → TableEntry (net .nodes) table u v
-held-entry h p q =
-    record {
-      u-from = p .from-one;
-      u-to = p .to-nodes;
-      v-from = q .from-one;
-      v-to = q .to-nodes;
-      nodes-to = h .nodes-to;
-      room = h .room;
-    }
+-- a code stands for the distance that it was made of
+pub decoded-code : (d : Distance) → decoded (code d) ≡ d
+unfolding decoded code
+decoded-code none = refl
+decoded-code (metres n) = refl
 
 -- two edges with equal entries
 pub same-edges : {p q : ℕ} {same : Bool} {ff fs sf ss ff′ fs′ sf′ ss′ : ℕ} → ff ≡ ff′ → fs ≡ fs′ → sf ≡ sf′ → ss ≡ ss′ → _≡_ {A = Edges} (record { long1 = p; long2 = q; same = same; ff = ff; fs = fs; sf = sf; ss = ss }) (record { long1 = p; long2 = q; same = same; ff = ff′; fs = fs′; sf = sf′; ss = ss′ })

@@ -5,7 +5,7 @@ use mathlib.Core.Path.{_≡_, _∙_, refl, sym, ap, ap₂}
 use Prim.Native.Nat.{ℕ, zero, suc, _+_, _-_, _≤_, _<_}
 use native.Mathlib.Omega.{arith}
 use lib.Dec.{eqb, eqb·suc-zero}
-use lib.ListN.{length, getD, take, drop, replicate, length-map, length-replicate, length-take, length-drop}
+use lib.ListN.{length, getD, take, drop, replicate, length-map, length-replicate}
 use lib.Seq.{drop-drop}
 use Rattle.model.specs.Distance.{Distance, metres, none}
 use Rattle.model.specs.Location.{Side}
@@ -22,10 +22,6 @@ put-back : (from : ℕ) (l out : List ℕ) (n : ℕ) → length out ≡ n → ta
 unfolding placed
 put-back from l out n e =
     ap (λ (m : List ℕ). take from l ++ (out ++ m)) (drop-drop ((from + n) - from) from l ∙ ap (λ (k : ℕ). drop k l) {x = from + ((from + n) - from)} {y = from + length out} (omega arith))
-
--- as long as it says
-pub part-length : (from n : ℕ) (l : List ℕ) → from + n ≤ length l → length (take ((from + n) - from) (drop from l)) ≡ n
-part-length from n l h = simp (length-take, length-drop) (omega arith)
 
 -- a list of zeros
 zeros : (f : ℕ → ℕ) (xs : List ℕ) → ((n : ℕ) → f n ≡ 0) → map f xs ≡ replicate (length xs) 0

@@ -7,7 +7,7 @@ use native.Mathlib.Numerals.{add-one, sub-one}
 use native.Mathlib.Omega.{arith}
 use lib.Dec.{eqb, leb}
 use lib.ListN.{length, getD, take, drop}
-use Rattle.model.specs.Distance.{Distance, metres, none, code, difference, within}
+use Rattle.model.specs.Distance.{Distance, difference, within}
 use Rattle.model.specs.Events.{event}
 use Rattle.model.specs.Limits.{maxEvents}
 use Rattle.model.specs.Location.{Side, at-first, at-second, endNode}
@@ -20,17 +20,12 @@ use Rattle.model.proofs.Laws.Cover.{none-pass}
 use Rattle.model.proofs.Laws.Routes.{some-route, event-within}
 use Rattle.prepare.specs.Prepared.{entry}
 use Rattle.prepare.specs.RunPairs.{edgeOf, partOf, runPairs, RunsReady}
-use Rattle.prepare.proofs.Laws.RunPairs.{run-is, run-codes}
+use Rattle.prepare.proofs.Laws.RunPairs.{TwoRead, run-is, run-codes}
+use Rattle.neighbor_sharing.proofs.Laws.Apart.{decoded-code}
 use Rattle.neighbor_sharing.specs.Joined.{reachedBy, isReached, reachedPairs}
-use Rattle.neighbor_sharing.specs.Runs.{tableEdges, Held, SweepRoom}
+use Rattle.neighbor_sharing.specs.Runs.{tableEdges, SweepRoom}
 use Rattle.neighbor_sharing.specs.Six.{decoded, codeBetween, distanceBetween, Laid, EdgesSweepable}
 use Rattle.neighbor_sharing.specs.declared.sweep.Edges.{Edges}
-
--- a code stands for the distance that it was made of
-decoded-code : (d : Distance) → decoded (code d) ≡ d
-unfolding decoded code
-decoded-code none = refl
-decoded-code (metres n) = refl
 
 -- the codes of two edges are the table's entries
 codes-are : (net : Network) (table : List ℕ) (i j : ℕ) (s s′ : Side) → codeBetween (tableEdges net table i j) s s′ ≡ entry net table (endNode net i s) (endNode net j s′)
@@ -39,17 +34,6 @@ codes-are net table i j at-first at-first = refl
 codes-are net table i j at-first at-second = refl
 codes-are net table i j at-second at-first = refl
 codes-are net table i j at-second at-second = refl
-
--- the network and the table that runs are read by
-pub ready-held : {net : Network} {table es xs bounds : List ℕ} {r q t : ℕ} → RunsReady net table es xs bounds r q t → Held net table
-ready-held w =
-    record {
-      firsts-length = w .firsts-length;
-      seconds-length = w .seconds-length;
-      nodes-to = w .nodes-to;
-      ends = w .ends;
-      room = w .table-room;
-    }
 
 module _ {net : Network} {table es xs bounds : List ℕ} {r q t : ℕ} (w : RunsReady net table es xs bounds r q t) where
   -- the offsets of a run, laid out on its edge
@@ -93,16 +77,7 @@ module _ {net : Network} {table es xs bounds : List ℕ} {r q t : ℕ} (w : Runs
         none : reachedPairs t (tableEdges net table i j) xs-a xs-b ≡ 0
         none = unfold reachedPairs in sum-below-zero (length xs-a) _ (λ k h. none-pass _ xs-b (λ l m. off _ _))
 
--- the places and the edges that are read for runs a and b
-pub record Cut (es bounds : List ℕ) (a b from to other-from other-to e f : ℕ) : Type 0 where
-  pub from-is : from ≡ getD bounds a 0
-  pub to-is : to ≡ getD bounds (a + 1) 0
-  pub other-from-is : other-from ≡ getD bounds b 0
-  pub other-to-is : other-to ≡ getD bounds (b + 1) 0
-  pub edge-is : e ≡ getD es from 0
-  pub other-edge-is : f ≡ getD es other-from 0
-
--- their parts lie within the offsets
+-- the parts of two runs lie within the offsets
 pub record PartsIn (xs : List ℕ) (from to other-from other-to : ℕ) : Type 0 where
   pub begins : from ≤ to
   pub in-list : to ≤ length xs
@@ -122,7 +97,7 @@ module _ {net : Network} {table es xs bounds : List ℕ} {a b t : ℕ} (w : Runs
       let run = run-is w k h (omega arith) in
       (omega (arith, run .edge-from), omega (arith, run .edge-from, run .edge-to))
 
-  module _ {from to other-from other-to e f : ℕ} (cut : Cut es bounds a b from to other-from other-to e f) where
+  module _ {from to other-from other-to e f : ℕ} (cut : TwoRead es bounds a b from to other-from other-to e f) where
     pub edge-a : e ≡ edgeOf es bounds a
     unfolding edgeOf
     edge-a = cut .edge-is ∙ ap (λ (n : ℕ). getD es n 0) (cut .from-is)

@@ -2,30 +2,23 @@
 use mathlib.Core.List.{List, [], _∷_, _++_, map, append-assoc}
 use mathlib.Core.Path.{_≡_, _∙_, sym, ap}
 use Prim.Native.Nat.{ℕ, zero, suc, _+_, _-_, _*_, _≤_, _<_}
-use native.Mathlib.Nat.{suc-mul, mul-le-mul-right, not-suc-le-zero}
-use native.Mathlib.Numerals.{add-one}
+use native.Mathlib.Nat.{suc-mul, not-suc-le-zero}
 use native.Mathlib.Omega.{arith}
 use lib.ListN.{length, getD, drop, length-map, List·getD-append}
 use lib.Seq.{getD-append-add}
 use Rattle.model.specs.Answer.{written}
-use Rattle.model.specs.Counting.{sumBelow, countIf}
+use Rattle.model.specs.Counting.{countIf}
 use Rattle.model.specs.Location.{Side, at-first, at-second}
 use Rattle.model.proofs.Laws.Counting.{sum-below-cong}
+use Rattle.model.proofs.Laws.Lists.{map-at}
 use Rattle.neighbor_sharing.proofs.Laws.Joined.{marked-position, reached-joined}
 use Rattle.neighbor_sharing.proofs.Laws.Six.{marks-length, window-length}
-use Rattle.neighbor_sharing.proofs.Laws.Step.{at-map}
 use Rattle.neighbor_sharing.specs.Answers.{marked, markedIf}
 use Rattle.neighbor_sharing.specs.Cursors.{position, positions, below, upTo}
 use Rattle.neighbor_sharing.specs.Joined.{joined, positionAt, joinedAt, joinedSum, reachedBy, isReached, reachedPairs}
 use Rattle.neighbor_sharing.specs.Six.{routeMarks, windowMarks, sixMarks, distanceBetween, EdgesSwept}
 use Rattle.neighbor_sharing.specs.Sweeping.{Ordered}
 use Rattle.neighbor_sharing.specs.declared.sweep.Edges.{Edges}
-
--- a place of a row, where n rows of m places stand one after the other
-pub in-rows : (m n j i : ℕ) → j < n → i < m → j * m + i < n * m
-in-rows m n j i h l =
-    let rows : suc j * m ≤ n * m = mul-le-mul-right m h in
-    omega (arith, suc-mul j m)
 
 -- lists of m elements each
 data Wide (m : ℕ) : List (List ℕ) → Type 0 where
@@ -92,12 +85,12 @@ module _ (t : ℕ) (w : Edges) (xs ys : List ℕ) where
     unfolding routeMarks positions
     route-at s s′ i h =
         let at = position t (w .long1) s (distanceBetween w s s′) (w .long2) s′ ys in
-        ap (λ (n : ℕ). n - 1) (at-map (marked (distanceBetween w s s′)) (map at xs) i (rw length-map h) ∙ ap (marked (distanceBetween w s s′)) (at-map at xs i h))
+        ap (λ (n : ℕ). n - 1) (map-at (marked (distanceBetween w s s′)) (map at xs) i (rw length-map h) ∙ ap (marked (distanceBetween w s s′)) (map-at at xs i h))
         ∙ marked-position t (w .long1) s (distanceBetween w s s′) (w .long2) s′ ys (getD xs i 0)
 
     window-at : (f : List ℕ → ℕ → ℕ) (i : ℕ) → i < length xs → getD (window f) i 0 - 1 ≡ markedIf (w .same) (f ys (getD xs i 0)) - 1
     unfolding windowMarks
-    window-at f i h = ap (λ (n : ℕ). n - 1) (at-map (λ x. markedIf (w .same) (f ys x)) xs i h)
+    window-at f i h = ap (λ (n : ℕ). n - 1) (map-at (λ x. markedIf (w .same) (f ys x)) xs i h)
 
     -- what the six positions at event i give
     pub joined-reached : Ordered ys → (i : ℕ) → i < length xs → joinedAt out′ (length xs) (length ys) i ≡ countIf (isReached t w (getD xs i 0)) ys
@@ -125,8 +118,3 @@ joined-few n ff fs sf ss low high = go _ _
   where
     go : (a b : ℕ) → n - a - b ≤ n
     go a b = omega arith
-
--- one event more
-pub sum-next : (f : ℕ → ℕ) (n : ℕ) → sumBelow (n + 1) f ≡ sumBelow n f + f n
-unfolding sumBelow
-sum-next f n = rw (add-one n)

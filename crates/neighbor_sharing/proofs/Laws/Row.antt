@@ -8,7 +8,7 @@ use lib.ListN.{length, getD, take, set, length-map, length-set}
 use lib.Seq.{take-suc, take-suc-set, take-all}
 use Rattle.model.specs.Network.{Network}
 use Rattle.prepare.specs.RunPairs.{RunsReady, SumFits, RowReady}
-use Rattle.neighbor_sharing.proofs.Laws.Step.{at-map}
+use Rattle.model.proofs.Laws.Lists.{map-at}
 
 -- what one threshold asks
 pub ready-at-one : {net : Network} {table es xs bounds ts : List ℕ} {r q k t : ℕ} → RowReady net table es xs bounds ts r q → k < length ts → t ≡ getD ts k 0 → RunsReady net table es xs bounds r q t × SumFits net es xs bounds r q t
@@ -32,7 +32,7 @@ module _ {f : ℕ → ℕ} {ts : List ℕ} {k : ℕ} {row : List ℕ} (w : RowTo
         long = simp length-set (w .long);
         filled =
             take-suc-set row k x (rw (w .long) h)
-            ∙ ap₂ (λ (l : List ℕ) (n : ℕ). l ++ (n ∷ [])) (w .filled) (e ∙ ap f at ∙ sym (at-map f ts k h))
+            ∙ ap₂ (λ (l : List ℕ) (n : ℕ). l ++ (n ∷ [])) (w .filled) (e ∙ ap f at ∙ sym (map-at f ts k h))
             ∙ sym (take-suc (map f ts) k 0 (rw length-map h));
       })
 

@@ -14,6 +14,7 @@ use Rattle.model.specs.Distance.{difference}
 use Rattle.model.specs.Location.{Side, at-first, at-second, gap}
 use Rattle.model.specs.Limits.{maxEvents}
 use Rattle.model.proofs.Laws.Counting.{count-mono, count-at-most}
+use Rattle.model.proofs.Laws.Lists.{map-at}
 use Rattle.neighbor_sharing.proofs.Laws.Moving.{at-most}
 use Rattle.neighbor_sharing.proofs.Laws.OneWay.{passes-self, add-up, rest-in, from-rest}
 use Rattle.neighbor_sharing.specs.Cursors.{rest, moves}
@@ -38,12 +39,6 @@ standing-on c q ys x y h = on (c .falling) (c .plus) (c .minus) q (c .first) ys 
 pub resting-on : (c : Cursor) (q : ℕ) (ys : List ℕ) (x : ℕ) → Passes (sideOf (c .falling)) (resting c ys) (standing c q ys x)
 unfolding resting
 resting-on c q ys x = from-rest (sideOf (c .falling)) (standing c q ys x) ys (at-most c q ys x)
-
--- an element of a list of values
-pub at-map : (f : ℕ → ℕ) (xs : List ℕ) (k : ℕ) → k < length xs → getD (map f xs) k 0 ≡ f (getD xs k 0)
-at-map f [] k h = absurd (not-suc-le-zero h)
-at-map f (x ∷ xs) zero h = refl
-at-map f (x ∷ xs) (suc k) h = at-map f xs k (omega arith)
 
 -- one move more
 moves-more : (from : ℕ) (ps : List ℕ) (i : ℕ) → i < length ps → moves from (take (suc i) ps) ≡ moves from (take i ps) + difference (getD (from ∷ ps) i 0) (getD ps i 0)
@@ -93,7 +88,7 @@ module _ (c : Cursor) (q : ℕ) (xs ys : List ℕ) where
     where
       go : (i : ℕ) → i < length xs → Passes (sideOf (c .falling)) (getD (resting c ys ∷ ps) i 0) (standing c q ys (getD xs i 0))
       go zero h = resting-on c q ys (getD xs 0 0)
-      go (suc i) h = rw (at-map (standing c q ys) xs i (omega arith)) (standing-on c q ys _ _ (w .first-ordered .in-order i (suc i) (omega arith) h))
+      go (suc i) h = rw (map-at (standing c q ys) xs i (omega arith)) (standing-on c q ys _ _ (w .first-ordered .in-order i (suc i) (omega arith) h))
 
   -- the moves with the next one: no more than there are events on the second edge
   pub net : (i position m next : ℕ) (out : List ℕ) → Swept-to i position m out → Movable c q ys (getD xs i 0) position → next ≡ standing c q ys (getD xs i 0) → m + difference position next ≡ difference (resting c ys) next
@@ -117,15 +112,15 @@ module _ (c : Cursor) (q : ℕ) (xs ys : List ℕ) where
   move-on i position m next out inv can h e =
       record {
         i-in = h;
-        position-is = e ∙ sym (at-map (standing c q ys) xs i h);
+        position-is = e ∙ sym (map-at (standing c q ys) xs i h);
         one-way = rw e (resting-on c q ys (getD xs i 0));
         position-in = next-in next (getD xs i 0) e;
-        moves-are = ap₂ _+_ (inv .moves-are) (ap₂ difference (inv .position-is) (e ∙ sym (at-map (standing c q ys) xs i h))) ∙ sym (moves-more (resting c ys) ps i (rw length-map h));
+        moves-are = ap₂ _+_ (inv .moves-are) (ap₂ difference (inv .position-is) (e ∙ sym (map-at (standing c q ys) xs i h))) ∙ sym (moves-more (resting c ys) ps i (rw length-map h));
         moves-net = net i position m next out inv can e;
         room = simp length-set (inv .room);
         filled =
             take-suc-set out i (suc next) (rw (inv .room) h)
-            ∙ ap₂ (λ (l : List ℕ) (n : ℕ). l ++ (n ∷ [])) (inv .filled) (ap suc e ∙ sym (at-map (λ x. suc (standing c q ys x)) xs i h))
+            ∙ ap₂ (λ (l : List ℕ) (n : ℕ). l ++ (n ∷ [])) (inv .filled) (ap suc e ∙ sym (map-at (λ x. suc (standing c q ys x)) xs i h))
             ∙ sym (take-suc (map (λ x. suc (standing c q ys x)) xs) i 0 (rw length-map h));
       }
 

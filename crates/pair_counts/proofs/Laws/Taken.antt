@@ -11,7 +11,7 @@ use lib.ListN.{length, getD, take, drop, length-map, length-take, List·getD-map
 use lib.Seq.{getD-take, getD-drop}
 use Rattle.model.proofs.Laws.Checks.{SetsAccepted, AreEvents, network-accepts}
 use Rattle.model.proofs.Laws.CheckParts.{same-length-accepts}
-use Rattle.model.proofs.Laws.Counting.{count-rearranged}
+use Rattle.model.proofs.Laws.Counting.{count-map, count-rearranged}
 use Rattle.model.proofs.Laws.Refusal.{both-accept, both-accepted, unless-accepts, true-between, all-good, below-good}
 use Rattle.model.proofs.Laws.Sorted.{sorted-rearranged, sorted-in-order}
 use Rattle.model.specs.Checks.{networkCheck, networkLists, networkValues, eventLists, eventValues, edgesCheck, offsetsCheck, eventsCheck, orderCheck, roomCheck, loneEdgeCheck}
@@ -66,11 +66,6 @@ count-edges e [] xs h = refl
 count-edges e (f ∷ es) [] h = absurd (omega arith)
 count-edges e (f ∷ es) (x ∷ xs) h = ap (λ (n : ℕ). one-if (eqb f e) + n) (count-edges e es xs (omega arith))
 
-count-map-edges : (e : ℕ) (l : List Event) → countIf (λ f. eqb f e) (map (λ v. v .edge) l) ≡ countIf (λ v. eqb (v .edge) e) l
-unfolding countIf
-count-map-edges e [] = refl
-count-map-edges e (v ∷ l) = ap (λ (n : ℕ). one-if (eqb (v .edge) e) + n) (count-map-edges e l)
-
 module _ {net : Network} {sets es xs ts edges offsets bounds setRuns table : List ℕ} (accepted : SetsAccepted net sets es xs)
     (p : Prepared net sets es xs ts edges offsets bounds setRuns table) (s : ℕ) where
   abbrev edges-of : List ℕ
@@ -86,7 +81,7 @@ module _ {net : Network} {sets es xs ts edges offsets bounds setRuns table : Lis
       let l : List Event = laidOutSet sets (events es xs) s in
       let same = accepted .are-events .same-length in
       having-length e edges-of offsets-of (set-same-length sets es xs s)
-      ∙ count-map-edges e l
+      ∙ count-map (λ f. eqb f e) (λ v. v .edge) l
       ∙ sym (count-rearranged (λ v. eqb (v .edge) e) (sorted-rearranged (having s sets (events es xs))))
       ∙ ap (countIf (λ v. eqb (v .edge) e)) (having-events s sets es xs same)
       ∙ count-edges e (having s sets es) (having s sets xs) (having-length s sets es (accepted .sets-length) ∙ sym (having-length s sets xs (accepted .sets-length ∙ same)))

@@ -1,13 +1,13 @@
 -- The loop over the sets: what stands fixed while it runs, and the row that each turn writes.
-use mathlib.Core.List.{List, _++_}
+use mathlib.Core.List.{List}
 use mathlib.Core.Path.{_≡_, refl, sym, ap, _∙_}
 use Prim.Native.Nat.{ℕ, suc, _+_, _-_, _*_, _≤_, _<_}
 use native.Mathlib.Nat.{suc-mul, mul-le-mul-right}
 use native.Mathlib.Numerals.{add-one}
 use native.Mathlib.Omega.{arith}
 use borrow.Rule.Slice.PartMut.{putMid}
-use lib.ListN.{length, getD, drop, length-map}
-use Rattle.model.specs.Answer.{written}
+use lib.ListN.{length, getD}
+use Rattle.model.proofs.Laws.Answer.{written-is, written-refused}
 use Rattle.model.specs.Events.{events, greatestSet, setCount}
 use Rattle.model.specs.Limits.{maxSet}
 use Rattle.model.specs.Network.{Network}
@@ -17,7 +17,7 @@ use Rattle.validate.proofs.SetSizes.{greatest-small}
 use Rattle.prepare.specs.Counts.{CountsAnswered, countRow, countTable}
 use Rattle.prepare.specs.Prepared as prepared
 use Rattle.prepare.specs.RunPairs.{RowReady, otherRow}
-use Rattle.prepare.proofs.Laws.CountRows.{rowsFrom, RowsWritten, rows-begin, row-written, rows-written, table-rows}
+use Rattle.prepare.proofs.Laws.CountRows.{rowsFrom, RowsWritten, rows-begin, row-written, rows-written, table-rows, count-row-length}
 use Rattle.prepare.proofs.Laws.SetPairs.{Stored, row-ready, row-is}
 use Rattle.prepare.proofs.Laws.Verdict.{CountsAccepted, counts-accepted}
 
@@ -46,20 +46,16 @@ begun {net} {sets} {es} {xs} {ts} {room} {g = g} ready told greatest =
 pub record SetsWritten (net : Network) (sets es xs ts old : List ℕ) (s start : ℕ) (answers : List ℕ) : Type 0 where
   pub rows : RowsWritten (countRow net sets (events es xs) ts) (length ts) old s start answers
 
-pub row-length : (net : Network) (sets es xs ts : List ℕ) (s : ℕ) → length (countRow net sets (events es xs) ts s) ≡ length ts
-unfolding countRow
-row-length net sets es xs ts s = simp length-map
-
 pub sets-begin : {net : Network} {sets es xs ts : List ℕ} (old : List ℕ) → SetsWritten net sets es xs ts old 0 0 old
 sets-begin {net} {sets} {es} {xs} {ts} old =
-    record { rows = rows-begin (countRow net sets (events es xs) ts) (length ts) (row-length net sets es xs ts) old }
+    record { rows = rows-begin (countRow net sets (events es xs) ts) (length ts) (count-row-length net sets (events es xs) ts) old }
 
 -- a row more, put back as a part of k places
 pub set-more : {net : Network} {sets es xs ts old answers : List ℕ} (s start k : ℕ) (row : List ℕ) → k ≡ length ts → row ≡ countRow net sets (events es xs) ts s → SetsWritten net sets es xs ts old s start answers → SetsWritten net sets es xs ts old (s + 1) (start + length ts) (putMid start k answers row)
 set-more {net} {sets} {es} {xs} {ts} {old} {answers} s start k row wide e w =
     record {
       rows =
-          row-written (countRow net sets (events es xs) ts) (length ts) (row-length net sets es xs ts) old s start k answers row wide (w .rows) e;
+          row-written (countRow net sets (events es xs) ts) (length ts) (count-row-length net sets (events es xs) ts) old s start k answers row wide (w .rows) e;
     }
 
 module _ {net : Network} {sets es xs ts : List ℕ} {room : ℕ} {edges offsets bounds setRuns table : List ℕ} {count : ℕ} (b : Begun net sets es xs ts room edges offsets bounds setRuns table count) where
@@ -82,10 +78,7 @@ module _ {net : Network} {sets es xs ts : List ℕ} {room : ℕ} {edges offsets 
 -- on refusal the answers are kept
 pub refused-answered : {net : Network} {sets es xs ts old : List ℕ} {r : Check} {edges offsets bounds setRuns table : List ℕ} {number place : ℕ} → prepared.Ready net sets es xs ts (length old) r edges offsets bounds setRuns table → r ≡ Refused number place → CountsAnswered net sets es xs ts old r old
 refused-answered {net} {sets} {es} {xs} {ts} {old} ready told =
-    record { verdict = ready .verdict; after = kept (countTable net sets (events es xs) ts) (sym (ready .verdict) ∙ told) }
-  where
-    kept : (answers : List ℕ) {r : Check} {number place : ℕ} → r ≡ Refused number place → old ≡ written r answers old
-    kept answers e = unfold written in rw e refl
+    record { verdict = ready .verdict; after = written-refused (countTable net sets (events es xs) ts) old (sym (ready .verdict) ∙ told) }
 
 -- on acceptance all rows are written
 pub all-answered : {net : Network} {sets es xs ts old : List ℕ} {r : Check} {edges offsets bounds setRuns table : List ℕ} {count : ℕ} → Begun net sets es xs ts (length old) edges offsets bounds setRuns table count → prepared.Ready net sets es xs ts (length old) r edges offsets bounds setRuns table → r ≡ Accepted → (answers : List ℕ) (s start : ℕ) → s ≡ count → SetsWritten net sets es xs ts old s start answers → CountsAnswered net sets es xs ts old r answers
@@ -95,9 +88,6 @@ all-answered {net} {sets} {es} {xs} {ts} {old} b ready told answers s start last
     record {
       verdict = ready .verdict;
       after =
-          rows-written (countRow net sets (events es xs) ts) (length ts) (row-length net sets es xs ts) old (setCount sets) start answers (rw (last ∙ b .count-is) at (w .rows))
-          ∙ rw rows (filled table (sym (ready .verdict) ∙ told));
+          rows-written (countRow net sets (events es xs) ts) (length ts) (count-row-length net sets (events es xs) ts) old (setCount sets) start answers (rw (last ∙ b .count-is) at (w .rows))
+          ∙ rw rows (sym (written-is table old (sym (ready .verdict) ∙ told)));
     }
-  where
-    filled : (answers : List ℕ) {r : Check} → r ≡ Accepted → answers ++ drop (length answers) old ≡ written r answers old
-    filled answers e = unfold written in rw e refl

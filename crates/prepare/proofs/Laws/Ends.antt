@@ -6,9 +6,9 @@ use native.Mathlib.Omega.{arith}
 use lib.ListN.{length, getD, drop}
 use borrow.Author.Tests.{eq-eqb, le-leb}
 use Rattle.distance.specs.Answers.{table, tableCheck, TableAnswered}
+use Rattle.model.proofs.Laws.Answer.{written-is}
 use Rattle.model.proofs.Laws.Checks.{IsNetwork, network-accepted}
 use Rattle.model.proofs.Laws.Refusal.{both-accepted, both-accept, unless-accepts}
-use Rattle.model.specs.Answer.{written}
 use Rattle.model.specs.Checks.{networkCheck, roomCheck}
 use Rattle.model.specs.Network.{Network, IsNode, edges}
 use Rattle.model.specs.Refusal.{listsDiffer}
@@ -17,11 +17,6 @@ use Rattle.model.specs.declared.check.Check.the-variants.{Accepted}
 use Rattle.prepare.specs.Marking.{endOf, Markable, Marked, Endable, Filled, EndsFilled}
 use Rattle.prepare.specs.Prepared.{entry}
 use Rattle.prepare.proofs.Laws.Table.{table-entry}
-
--- what is written on acceptance
-written-accepted : (r : Check) (answers old : List ℕ) → r ≡ Accepted → written r answers old ≡ answers ++ drop (length answers) old
-unfolding written
-written-accepted r answers old e = rw e
 
 module _ (net : Network) (es table₀ : List ℕ) (asked : Endable net es table₀) where
   pub is-network : IsNetwork net
@@ -60,7 +55,7 @@ module _ (net : Network) (es table₀ : List ℕ) (asked : Endable net es table�
       → TableAnswered net bound wanted′ table₀ r table′ → EndsFilled net es bound table′
   ends-filled bound wanted first-marked wanted′ r table′ firsts seconds e answered =
       let n = is-network in
-      let whole = answered .after ∙ written-accepted _ (table net bound wanted′ table₀) table₀ (table-accepts wanted′ e) in
+      let whole = answered .after ∙ written-is (table net bound wanted′ table₀) table₀ (table-accepts wanted′ e) in
       record {
         from-first = filled (net .firsts) (n .firsts-length) (n .ends .first-is) bound wanted′ _ table′ (λ k h. seconds .keeps _ (firsts .marks k h)) whole;
         from-second = filled (net .seconds) (n .seconds-length) (n .ends .second-is) bound wanted′ _ table′ (seconds .marks) whole;

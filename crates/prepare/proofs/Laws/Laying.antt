@@ -1,17 +1,18 @@
 -- Laying out the sets one after the other: how the loop goes.
-use mathlib.Core.List.{List, [], _∷_, _++_, map, append-nil}
+use mathlib.Core.List.{List, _++_, map, map-append}
 use mathlib.Core.Logic.{⊎-elim}
 use mathlib.Core.Path.{_≡_, refl, sym, ap, ap₂, _∙_}
 use Prim.Native.Nat.{ℕ, suc, _+_, _-_, _≤_, _<_}
 use native.Mathlib.Nat.{eq-or-lt-of-le}
 use native.Mathlib.Numerals.{add-one}
 use native.Mathlib.Omega.{arith}
-use lib.ListN.{length, getD, take, drop, set, drop-of-length-le, length-drop}
+use lib.ListN.{length, getD, take, drop, set, length-map}
 use borrow.Rule.Slice.PartMut.{putMid}
 use lib.Seq.{take-append-add, take-append-le, take-at, length-take-le, getD-set-same, getD-set-other}
 use borrow.Author.Tests.{eq-eqb, le-leb}
-use Rattle.layout.proofs.Laws.Parts.{to-end}
 use Rattle.layout.specs.Layout.{LaidOut}
+use Rattle.model.proofs.Laws.Answer.{written-whole}
+use Rattle.model.proofs.Laws.Pieces.{part-length}
 use Rattle.model.proofs.Laws.Refusal.{both-accept, unless-accepts}
 use Rattle.model.proofs.Laws.Sorted.{sorted-length}
 use Rattle.model.specs.Answer.{written}
@@ -31,19 +32,6 @@ unfolding layoutCheck eventLists sameLength eventsCheck
 layout-accepts es xs e h =
     both-accept (unless-accepts _ listsDiffer 0 (eq-eqb _ _ e)) (unless-accepts _ tooManyEvents maxEvents (le-leb _ _ h))
 
--- answers that fill a list
-written-whole : (r : Check) (answers old : List ℕ) → r ≡ Accepted → length old ≤ length answers → written r answers old ≡ answers
-unfolding written
-written-whole r answers old e h = rw (e, drop-of-length-le old h, append-nil)
-
-pub map-length : {A B : Type 0} (f : A → B) (l : List A) → length (map f l) ≡ length l
-map-length f [] = refl
-map-length f (x ∷ l) = ap suc (map-length f l)
-
-pub map-append : {A B : Type 0} (f : A → B) (l m : List A) → map f (l ++ m) ≡ map f l ++ map f m
-map-append f [] m = refl
-map-append f (x ∷ l) m = ap (λ k. f x ∷ k) (map-append f l m)
-
 -- one of the two lists of a set: gathered, laid out and put back
 module _ (sets es xs : List ℕ) (s : ℕ) (same : length es ≡ length xs) (n : ℕ) (edges offsets : List ℕ)
     (gathered : take n edges ≡ having s sets es) (beside : take n offsets ≡ having s sets xs)
@@ -58,7 +46,7 @@ module _ (sets es xs : List ℕ) (s : ℕ) (same : length es ≡ length xs) (n :
 
   laid-many : (f : Event → ℕ) → length (map f (sorted (events (take n edges) (take n offsets)))) ≡ n
   laid-many f =
-      map-length f (sorted (events (take n edges) (take n offsets)))
+      length-map (sorted (events (take n edges) (take n offsets))) f
       ∙ sorted-length (events (take n edges) (take n offsets))
       ∙ events-length (take n edges) (take n offsets) (length-take-le n edges edges-room ∙ sym (length-take-le n offsets offsets-room))
       ∙ length-take-le n edges edges-room
@@ -68,7 +56,7 @@ module _ (sets es xs : List ℕ) (s : ℕ) (same : length es ≡ length xs) (n :
       → old′ ≡ written (layoutCheck (take n edges) (take n offsets)) (map f (sorted (events (take n edges) (take n offsets)))) (take n old)
       → take n (old′ ++ drop n old) ≡ map f (laidOutSet sets (events es xs) s)
   put-back f old old′ room e =
-      let whole = e ∙ written-whole _ _ _ accepted (omega (arith, laid-many f, length-take-le n old room)) in
+      let whole = e ∙ written-whole _ _ accepted (omega (arith, laid-many f, length-take-le n old room)) in
       take-at old′ (drop n old) n (ap length whole ∙ laid-many f) ∙ whole ∙ ap (map f) laid-events
 
   pub set-laid : n ≡ setSize sets s → SetLaid sets es xs s n (edges′ ++ drop n edges) (offsets′ ++ drop n offsets)
@@ -99,10 +87,6 @@ put-behind f old part rest start n ms ns room part-room front next =
     ∙ ap₂ (λ (k l : List ℕ). k ++ l) front next
     ∙ sym (map-append f ms ns)
 
--- the part of a list from a place on is as long as what is left
-part-length : (l : List ℕ) (start : ℕ) → length (take (length l - start) (drop start l)) ≡ length l - start
-part-length l start = ap length (to-end start l) ∙ length-drop start l
-
 -- a turn of the loop, in the terms of the code
 module _ (sets es xs : List ℕ) (n : ℕ) (edges₀ offsets₀ starts₀ : List ℕ) (asked : SetsFit sets es xs n edges₀ offsets₀ starts₀)
     (edges offsets starts : List ℕ) (start s : ℕ) (edges-long : length edges ≡ length edges₀) (offsets-long : length offsets ≡ length offsets₀)
@@ -117,8 +101,8 @@ module _ (sets es xs : List ℕ) (n : ℕ) (edges₀ offsets₀ starts₀ : List
         sets-length = asked .sets-length;
         same-length = asked .same-length;
         few = omega (arith, asked .few);
-        edges-room = rw (part-length edges start) (omega (arith, asked .edges-room));
-        offsets-room = rw (part-length offsets start) (omega (arith, asked .offsets-room));
+        edges-room = rw (part-length start (length edges) edges (omega arith)) (omega (arith, asked .edges-room));
+        offsets-room = rw (part-length start (length offsets) offsets (omega arith)) (omega (arith, asked .offsets-room));
       }
 
   module _ (r : ℕ) (edges′ offsets′ : List ℕ) (edges-kept : length edges′ ≡ length (take (length edges - start) (drop start edges)))
@@ -146,8 +130,8 @@ module _ (sets es xs : List ℕ) (n : ℕ) (edges₀ offsets₀ starts₀ : List
         let end = set-end in
         record {
           edges-are = behind (λ e. e .edge) edges edges′ _ (omega (arith, asked .edges-room))
-              (omega (arith, laid .many, asked .edges-room, part-length edges start)) (so-far .edges-are) (laid .edges-are);
+              (omega (arith, laid .many, asked .edges-room, part-length start (length edges) edges (omega arith))) (so-far .edges-are) (laid .edges-are);
           offsets-are = behind (λ e. e .offset) offsets offsets′ _ (omega (arith, asked .offsets-room))
-              (omega (arith, laid .many, asked .offsets-room, part-length offsets start)) (so-far .offsets-are) (laid .offsets-are);
+              (omega (arith, laid .many, asked .offsets-room, part-length start (length offsets) offsets (omega arith))) (so-far .offsets-are) (laid .offsets-are);
           starts-are = noted;
         }

@@ -3,7 +3,7 @@ use mathlib.Core.List.{List, [], _∷_, map}
 use mathlib.Core.Path.{_≡_, refl, sym, ap, ap₂, _∙_}
 use Prim.Native.Nat.{ℕ, zero, suc, _+_, _-_, _≤_, _<_}
 use native.Mathlib.Omega.{arith}
-use lib.ListN.{length, getD, take, drop, length-take, length-drop}
+use lib.ListN.{length, getD, take, drop, length-take, length-drop, length-map}
 use lib.Seq.{getD-take, getD-drop, length-take-le, ext-getD}
 use Rattle.model.proofs.Laws.Checks.{SetsAccepted}
 use Rattle.model.proofs.Laws.Counting.{sum-below-cong}
@@ -18,7 +18,6 @@ use Rattle.prepare.specs.Prepared.{laidOutSet, grouped, startOf, Prepare
 use Rattle.prepare.proofs.Laws.Groups.{events-total, start-next, laid-out-length, grouped-length, set-slice}
 use Rattle.prepare.proofs.Laws.InRuns.{InSet, runCount, set-runs-rise, run-inside}
 use Rattle.prepare.proofs.Laws.LaidEvents.{set-count, events-long}
-use Rattle.prepare.proofs.Laws.Laying.{map-length}
 use Rattle.prepare.proofs.Laws.RunSums.{closePairs, close-offsets, run-pairs}
 
 -- a list of events is that of its edges and offsets
@@ -88,7 +87,7 @@ module _ {net : Network} {sets es xs ts edges offsets bounds setRuns table : Lis
   laid-length = grouped-length sets (events es xs) (events-long accepted p) (setCount sets) ∙ events-total sets es (accepted .sets-length)
 
   long-enough : (l : List ℕ) (f : Event → ℕ) → take (length es) l ≡ map f laid → length es ≤ length l
-  long-enough l f e = omega (arith, simp (length-take, map-length) at (ap length e), laid-length)
+  long-enough l f e = omega (arith, simp (length-take, length-map) at (ap length e), laid-length)
 
   pub edges-long : length es ≤ length edges
   edges-long = long-enough edges (λ e. e .edge) (p .edges-are)

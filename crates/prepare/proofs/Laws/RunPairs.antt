@@ -6,9 +6,9 @@ use Prim.Native.Nat.{ℕ, zero, suc, pred, _+_, _-_, _*_, _≤_, _<_}
 use native.Mathlib.Nat.{eq-or-lt-of-le, le-trans}
 use native.Mathlib.Numerals.{add-one}
 use native.Mathlib.Omega.{arith}
-use lib.ListN.{length, getD, take, drop, length-take, length-drop}
-use lib.Seq.{getD-take, getD-drop}
+use lib.ListN.{length, getD}
 use Rattle.model.proofs.Laws.Counting.{count-at-most}
+use Rattle.model.proofs.Laws.Pieces.{part-length, part-at}
 use Rattle.model.specs.Counting.{sumBelow}
 use Rattle.model.specs.Distance.{code}
 use Rattle.model.specs.Events.{event, IsEvent}
@@ -16,6 +16,7 @@ use Rattle.model.specs.Limits.{maxEvents, maxLength}
 use Rattle.model.specs.Location.{Side, endNode}
 use Rattle.model.specs.Network.{Network, edges, size}
 use Rattle.model.specs.NodeDistance.{boundedDistance}
+use Rattle.prepare.specs.EndTable.{EndTable}
 use Rattle.prepare.specs.Prepared.{entry}
 use Rattle.prepare.specs.RunPairs.{edgeOf, partOf, runPairs, earlierPairs, allPairs, RunsReady}
 use Rattle.prepare.proofs.Laws.RunSums.{sum-below-most}
@@ -32,14 +33,35 @@ pub record RunIs (net : Network) (es xs bounds : List ℕ) (k : ℕ) : Type 0 wh
   pub rising : (i j : ℕ) → i ≤ j → j < length (partOf bounds k xs) → getD (partOf bounds k xs) i 0 ≤ getD (partOf bounds k xs) j 0
   pub is-event : (i : ℕ) → i < length (partOf bounds k xs) → IsEvent net (event (edgeOf es bounds k) (getD (partOf bounds k xs) i 0))
 
+-- the places and the edges that are read for runs a and b
+pub record TwoRead (es bounds : List ℕ) (a b from to other-from other-to e f : ℕ) : Type 0 where
+  pub from-is : from ≡ getD bounds a 0
+  pub to-is : to ≡ getD bounds (a + 1) 0
+  pub other-from-is : other-from ≡ getD bounds b 0
+  pub other-to-is : other-to ≡ getD bounds (b + 1) 0
+  pub edge-is : e ≡ getD es from 0
+  pub other-edge-is : f ≡ getD es other-from 0
+
+-- the network and the table that runs are read by
+pub ready-table : {net : Network} {table es xs bounds : List ℕ} {r q t : ℕ} → RunsReady net table es xs bounds r q t → EndTable net table
+ready-table w =
+    record {
+      firsts-length = w .firsts-length;
+      seconds-length = w .seconds-length;
+      nodes-to = w .nodes-to;
+      ends = w .ends;
+      length-to = w .length-to;
+      room = w .table-room;
+    }
+
 -- how long a run's part of a list is, and what stands in it
 pub part-of-length : (bounds l : List ℕ) (k : ℕ) → getD bounds (suc k) 0 ≤ length l → length (partOf bounds k l) ≡ getD bounds (suc k) 0 - getD bounds k 0
 unfolding partOf
-part-of-length bounds l k h = simp (length-take, length-drop) (omega arith)
+part-of-length bounds l k h = part-length (getD bounds k 0) (getD bounds (suc k) 0) l h
 
 pub part-of-at : (bounds l : List ℕ) (k i : ℕ) → i < getD bounds (suc k) 0 - getD bounds k 0 → getD (partOf bounds k l) i 0 ≡ getD l (getD bounds k 0 + i) 0
 unfolding partOf
-part-of-at bounds l k i h = getD-take (getD bounds (suc k) 0 - getD bounds k 0) (drop (getD bounds k 0) l) i 0 h ∙ getD-drop (getD bounds k 0) l i 0
+part-of-at bounds l k i h = part-at (getD bounds k 0) (getD bounds (suc k) 0) i l h
 
 module _ {net : Network} {table es xs bounds : List ℕ} {r q t : ℕ} (w : RunsReady net table es xs bounds r q t) where
   -- the bounds up to a run's end

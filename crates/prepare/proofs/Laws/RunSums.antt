@@ -5,7 +5,7 @@ use mathlib.Core.Path.{_≡_, refl, sym, ap, ap₂, _∙_}
 use Prim.Native.Nat.{ℕ, zero, suc, _+_, _*_, _≤_, _<_}
 use native.Mathlib.Omega.{arith}
 use lib.ListN.{length, getD}
-use Rattle.model.proofs.Laws.Counting.{sumOver, sum-below-cong, sum-below-add, sum-below-list, sum-over-cong, sum-over-append, count-append, count-cong, count-sum, one-if-one}
+use Rattle.model.proofs.Laws.Counting.{sumOver, sum-below-cong, sum-below-add, sum-below-list, sum-over-cong, sum-over-append, count-append, count-cong, count-map, count-sum, one-if-one}
 use Rattle.model.proofs.Laws.Location.{location-symmetric}
 use Rattle.model.proofs.Laws.PairCount.{close, pair-count-total}
 use Rattle.model.proofs.Laws.Pieces.{part, pieces}
@@ -33,16 +33,11 @@ sum-over-below zero f xs = sum-over-zero xs
 sum-over-below (suc n) f xs =
     sum-over-add (λ x. sumBelow n (λ b. f b x)) (f n) xs ∙ ap (λ (m : ℕ). m + sumOver (f n) xs) (sum-over-below n f xs)
 
--- a sum and a count over what h makes of the elements
+-- a sum over what h makes of the elements
 sum-over-map : {A B : Type 0} (g : B → ℕ) (h : A → B) (xs : List A) → sumOver g (map h xs) ≡ sumOver (λ x. g (h x)) xs
 unfolding sumOver
 sum-over-map g h [] = refl
 sum-over-map g h (x ∷ xs) = ap (λ (n : ℕ). g (h x) + n) (sum-over-map g h xs)
-
-count-map : {A B : Type 0} (test : B → Bool) (h : A → B) (xs : List A) → countIf test (map h xs) ≡ countIf (λ x. test (h x)) xs
-unfolding countIf
-count-map test h [] = refl
-count-map test h (x ∷ xs) = ap (λ (n : ℕ). one-if (test (h x)) + n) (count-map test h xs)
 
 -- a sum of so many terms, each at most m
 pub sum-below-most : (m n : ℕ) (f : ℕ → ℕ) → ((i : ℕ) → i < n → f i ≤ m) → sumBelow n f ≤ m * n

@@ -14,6 +14,7 @@ use Rattle.model.specs.Events.{event, events, setSize, setCount}
 use Rattle.model.specs.Limits.{maxEvents}
 use Rattle.model.specs.Network.{Network, EndsAreNodes}
 use Rattle.prepare.specs.Counts.{countRow}
+use Rattle.prepare.specs.EndTable.{EndTable}
 use Rattle.prepare.specs.Prepared.{Prepared, laidOutSet, startOf, greatest}
 use Rattle.prepare.specs.RunPairs.{edgeOf, partOf, runPairs, earlierPairs, allPairs, otherPairs, otherRow, SumFits, RunsReady, RowReady}
 use Rattle.prepare.proofs.Laws.Entries.{ends-entry}
@@ -29,6 +30,19 @@ pub record Stored (edges offsets bounds table : List ℕ) : Type 0 where
   pub offsets-length : length offsets ≡ maxEvents
   pub bounds-length : length bounds ≡ suc maxEvents
   pub table-length : length table ≡ 262144
+
+-- an accepted network is within its limits, and such a table has room for its nodes
+pub stored-table : {net : Network} {sets es xs edges offsets bounds table : List ℕ} → SetsAccepted net sets es xs → Stored edges offsets bounds table → EndTable net table
+stored-table accepted stored =
+    let is = accepted .is-network in
+    record {
+      firsts-length = is .firsts-length;
+      seconds-length = is .seconds-length;
+      nodes-to = is .nodes-to;
+      ends = is .ends;
+      length-to = is .length-to;
+      room = omega (arith, mul-le-mul (is .nodes-to) (is .nodes-to), stored .table-length);
+    }
 
 -- the pairs of two runs are as many both ways
 pub run-pairs-either : (net : Network) (es xs bounds : List ℕ) (t a b : ℕ) → EndsAreNodes net → runPairs net es xs bounds t a b ≡ runPairs net es xs bounds t b a
@@ -77,14 +91,13 @@ module _ {net : Network} {sets es xs ts edges offsets bounds setRuns table : Lis
         let end = ends-at in
         let in-list = inside in
         let last = last-run in
-        let square = mul-le-mul (net-is .nodes-to) (net-is .nodes-to) in
         record {
           firsts-length = net-is .firsts-length;
           seconds-length = net-is .seconds-length;
           nodes-to = net-is .nodes-to;
           ends = net-is .ends;
           length-to = net-is .length-to;
-          table-room = omega (arith, square, stored .table-length);
+          table-room = stored-table accepted stored .room;
           in-order = p .runs .in-order s is-set;
           in-bounds = omega (arith, stored .bounds-length, p .runs .few);
           few-runs = omega (arith, p .runs .few);

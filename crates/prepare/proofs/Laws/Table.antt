@@ -6,7 +6,7 @@ use Prim.Native.Nat.{ℕ, zero, suc, pred, _+_, _*_, _≤_, _<_}
 use native.Mathlib.Nat.{mul-le-mul-right, suc-mul}
 use native.Mathlib.Omega.{arith}
 use lib.Dec.{eqb}
-use lib.ListN.{length, getD, take, drop, length-append, length-drop, List·getD-append}
+use lib.ListN.{length, getD, take, drop, length-append, length-drop, length-map, List·getD-append}
 use lib.Seq.{getD-append-add, length-take-le}
 use borrow.Author.Tests.{ne-eqb}
 use Rattle.distance.specs.Answers.{distanceRow, tableRows, table}
@@ -16,7 +16,6 @@ use Rattle.model.specs.Distance.{code}
 use Rattle.model.specs.Network.{Network, IsNode}
 use Rattle.model.specs.NodeDistance.{boundedDistance}
 use Rattle.prepare.specs.Prepared.{entry}
-use Rattle.prepare.proofs.Laws.Laying.{map-length}
 
 -- the entry of a list made from successive numbers
 pub from-numbers : (f : ℕ → ℕ) (start n i : ℕ) → i < n → getD (map f (numbersFrom start n)) i 0 ≡ f (start + i)
@@ -28,7 +27,7 @@ from-numbers f start (suc n) (suc i) h = from-numbers f (suc start) n i (omega a
 module _ (net : Network) (bound : ℕ) (wanted old : List ℕ) where
   pub row-length : (u : ℕ) → length (distanceRow net bound u) ≡ net .nodes
   unfolding distanceRow
-  row-length u = map-length _ (numbersFrom 1 (net .nodes)) ∙ numbers-length 1 (net .nodes)
+  row-length u = length-map (numbersFrom 1 (net .nodes)) _ ∙ numbers-length 1 (net .nodes)
 
   pub row-entry : (u v : ℕ) → IsNode net v → getD (distanceRow net bound u) (pred v) 0 ≡ code (boundedDistance net bound u v)
   unfolding distanceRow

@@ -7,8 +7,9 @@ use lib.Dec.{leb}
 use lib.ListN.{length}
 use borrow.Author.Tests.{le-leb, lt-leb, leb-true, leb-false}
 use native.Mathlib.Nat.{le-div-iff-mul-le, mul-comm, lt-of-not-le, not-le-of-lt}
+use Rattle.model.proofs.Laws.CheckParts.{lists-first}
 use Rattle.model.proofs.Laws.Checks.{SetsAccepted, ThresholdsAccepted, sets-accepted, thresholds-accepted}
-use Rattle.model.proofs.Laws.Refusal.{or-else-next, or-else-refused, unless-accepts, unless-refuses, unless-accepted, both-accepted}
+use Rattle.model.proofs.Laws.Refusal.{or-else-next, or-else-refused, or-else-assoc, two-or-accepted, unless-accepts, unless-refuses, unless-accepted, both-accepted}
 use Rattle.model.specs.Checks.{sameLength, eventLists, networkLists, setLists, setsOverNetworkCheck, networkValues, setsCheck, eventValues, equalSetsCheck, thresholdsCheck}
 use Rattle.model.specs.Events.{setCount}
 use Rattle.model.specs.Network.{Network}
@@ -16,17 +17,6 @@ use Rattle.model.specs.Refusal.{orElse, unless, listsDiffer}
 use Rattle.model.specs.declared.check.Check.{Check}
 use Rattle.model.specs.declared.check.Check.the-variants.{Accepted, Refused}
 use Rattle.prepare.specs.Counts.{countsCheck}
-
--- a check that either accepts or refuses with 2 at 0, in front of one that refuses so
-pub two-or-accepted : (b : Bool) (next : Check) → next ≡ Refused listsDiffer 0 → orElse (unless b listsDiffer 0) next ≡ Refused listsDiffer 0
-unfolding orElse unless
-two-or-accepted true next e = e
-two-or-accepted false next e = refl
-
-pub or-else-assoc : (a b c : Check) → orElse (orElse a b) c ≡ orElse a (orElse b c)
-unfolding orElse
-or-else-assoc Accepted b c = refl
-or-else-assoc (Refused n p) b c = refl
 
 -- two tests that follow from each other answer alike
 same-answer : (a b c d : ℕ) → (a ≤ b → c ≤ d) → (c ≤ d → a ≤ b) → leb a b ≡ leb c d
@@ -45,12 +35,9 @@ quotient-test count n room h =
 module _ (net : Network) (sets es xs ts : List ℕ) (room : ℕ) where
   -- too little room is refused, whatever the lengths of the lists
   pub no-room : leb (setCount sets * length ts) room ≡ false → Refused listsDiffer 0 ≡ countsCheck net sets es xs ts room
-  unfolding countsCheck networkLists setLists sameLength eventLists
+  unfolding countsCheck setLists sameLength eventLists
   no-room e =
-      sym
-      (or-else-assoc _ _ _
-      ∙ two-or-accepted _ _ (two-or-accepted _ _
-      (or-else-assoc _ _ _ ∙ two-or-accepted _ _ (two-or-accepted _ _ (or-else-refused _ (unless-refuses _ listsDiffer 0 e))))))
+      sym (lists-first net (or-else-assoc _ _ _ ∙ two-or-accepted _ _ (two-or-accepted _ _ (or-else-refused _ (unless-refuses _ listsDiffer 0 e)))))
 
   -- with room enough, the sets are checked and then the thresholds
   pub with-room : leb (setCount sets * length ts) room ≡ true → orElse (setsOverNetworkCheck net sets es xs) (thresholdsCheck ts) ≡ countsCheck net sets es xs ts room

@@ -7,16 +7,12 @@ use native.Mathlib.Omega.{arith}
 use borrow.Author.Tests.{le-leb, ne-eqb}
 use lib.Dec.{eqb}
 use lib.ListN.{length, getD, List·getD-append}
+use Rattle.model.proofs.Laws.Refusal.{true-between}
 use Rattle.model.specs.Refusal.{isBetween}
 use Rattle.text.specs.Numbers.{isDigit, allDigits, decimal, maxDigits, maxNumber, wellFormed, numberOf}
 use Rattle.text.specs.declared.number.Number.the-variants.{Value}
 use Rattle.printing.specs.Bytes.{lastDigits, digits}
 use Rattle.printing.proofs.Laws.Digits.{one-digit, more-digits, small-or-not, length-more, div-below}
-
--- a number is between two others
-between-true : (low high n : ℕ) → low ≤ n → n ≤ high → isBetween low high n ≡ true
-unfolding isBetween
-between-true low high n l h = simp (le-leb _ _ l, le-leb _ _ h)
 
 -- bytes behind bytes are all digits where both are
 all-digits-append : (xs ys : List ℕ) → allDigits (xs ++ ys) ≡ (allDigits xs && allDigits ys)
@@ -26,7 +22,7 @@ all-digits-append (x ∷ xs) ys = simp (all-digits-append xs ys, and-assoc)
 
 one-all-digits : (d : ℕ) → d < 10 → allDigits ((48 + d) ∷ []) ≡ true
 unfolding allDigits isDigit
-one-all-digits d h = simp (between-true 48 57 (48 + d) (omega arith) (omega arith))
+one-all-digits d h = simp (true-between 48 57 (48 + d) (omega arith) (omega arith))
 
 -- digits are digits
 all-digits : (more n : ℕ) → allDigits (lastDigits more n) ≡ true
@@ -76,7 +72,7 @@ module _ (n : ℕ) (small : n ≤ maxNumber) where
   -- 1 to 10 digits
   digit-count : isBetween 1 maxDigits (length (digits n)) ≡ true
   unfolding digits
-  digit-count = between-true 1 10 (length (lastDigits 20 n)) (some-digits 19 n) (few-digits 20 9 n (omega arith))
+  digit-count = true-between 1 10 (length (lastDigits 20 n)) (some-digits 19 n) (few-digits 20 9 n (omega arith))
 
   -- no zero in front unless it is the number
   no-needless-zero : (eqb (length (digits n)) 1 || not (eqb (getD (digits n) 0 0) 48)) ≡ true

@@ -75,10 +75,6 @@ module _ {ts steps : List ℕ} (w : Spread ts steps) (up : ThresholdsAccepted ts
         small = w .small;
       }
 
-  -- each is at most the greatest threshold
-  pub spread-most : (k : ℕ) → k < length ts → getD ts k 0 ≤ getD ts (length ts - 1) 0
-  spread-most k h = no-fall k (length ts - 1) (omega arith) (omega arith)
-
   -- the first are the thresholds
   pub spread-first : (k : ℕ) → k < length ts → getD steps k 0 ≡ getD ts k 0
   spread-first k h =

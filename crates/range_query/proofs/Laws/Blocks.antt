@@ -7,25 +7,16 @@ use native.Mathlib.Nat.{suc-mul, mul-le-mul-right}
 use native.Mathlib.Numerals.{add-one}
 use native.Mathlib.Omega.{arith}
 use lib.Dec.{leb}
-use lib.ListN.{length, getD, length-take, length-drop}
-use lib.Seq.{getD-take, getD-drop}
+use lib.ListN.{length, getD}
 use Rattle.model.specs.Counting.{one-if, countBelow, sumBelow}
 use Rattle.model.proofs.Laws.Counting.{sum-below-cong}
-use Rattle.model.proofs.Laws.Pieces.{part}
+use Rattle.model.proofs.Laws.Pieces.{part, part-length, part-at}
 use Rattle.range_query.specs.Metres.{far, meet, metres, toFirst, toSecond, placeOn}
 use Rattle.range_query.specs.Runs.{Block, pairsWithin, blockMetres}
 use Rattle.range_query.specs.Tally.{Steps, Added, Room, RowFits, sumBetween}
 use Rattle.range_query.specs.declared.metres.EdgePair.{EdgePair}
 use Rattle.range_query.proofs.Laws.Between.{between-none, between-more}
 use Rattle.range_query.proofs.Laws.Tally.{added-none, added-then, added-as}
-
--- a part of a list is as long as its places say
-pub part-length : (a b : ℕ) (l : List ℕ) → b ≤ length l → length (part a b l) ≡ b - a
-part-length a b l h = simp (length-take, length-drop) (omega arith)
-
--- and has the list's elements
-pub part-at : (a b k : ℕ) (l : List ℕ) → k < b - a → getD (part a b l) k 0 ≡ getD l (a + k) 0
-part-at a b k l h = rw (getD-take, getD-drop)
 
 -- what is counted over a part is counted over its places
 pub count-part : (test : ℕ → Bool) (a b : ℕ) (l : List ℕ) → b ≤ length l → countBelow (length (part a b l)) (λ k. test (getD (part a b l) k 0)) ≡ sumBetween a b (λ i. one-if (test (getD l i 0)))

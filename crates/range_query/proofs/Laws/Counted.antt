@@ -1,8 +1,7 @@
 -- What is prepared is what the loops over a set's runs read, and what they count is the set's row of the answer.
-use mathlib.Core.List.{List, [], _∷_, map}
+use mathlib.Core.List.{List}
 use mathlib.Core.Path.{_≡_, refl, sym, ap, ap₂, _∙_}
-use Prim.Native.Nat.{ℕ, zero, suc, pred, _+_, _-_, _*_, _≤_, _<_}
-use native.Mathlib.Numerals.{sub-one}
+use Prim.Native.Nat.{ℕ, suc, pred, _+_, _-_, _*_, _≤_, _<_}
 use native.Mathlib.Omega.{arith}
 use lib.Dec.{leb}
 use lib.ListN.{length, getD}
@@ -18,26 +17,21 @@ use Rattle.model.specs.NodeDistance.{boundedDistance}
 use Rattle.model.specs.PairCount.{eventAt, eventDistance}
 use Rattle.model.proofs.Laws.Checks.{SetsAccepted, ThresholdsAccepted}
 use Rattle.model.proofs.Laws.Counting.{sum-below-cong, count-below-cong}
+use Rattle.model.proofs.Laws.Lists.{map-at}
 use Rattle.prepare.specs.Counts.{countRow}
 use Rattle.prepare.specs.Prepared.{Prepared, laidOutSet, startOf, greatest, entry}
-use Rattle.prepare.proofs.Laws.AllSets.{row-length}
+use Rattle.prepare.proofs.Laws.CountRows.{count-row-length}
 use Rattle.prepare.proofs.Laws.Entries.{ends-entry}
 use Rattle.prepare.proofs.Laws.Groups.{events-total, laid-out-length, start-next, starts-rise}
 use Rattle.prepare.proofs.Laws.InRuns.{set-runs-rise}
 use Rattle.prepare.proofs.Laws.LaidEvents.{set-count, set-event, events-long, laid-is-event}
-use Rattle.prepare.proofs.Laws.SetPairs.{Stored}
+use Rattle.prepare.proofs.Laws.SetPairs.{Stored, stored-table, at-most-greatest}
 use Rattle.range_query.specs.Metres.{metresAt}
 use Rattle.range_query.specs.Runs.{RunsReady, pairsFrom}
 use Rattle.range_query.specs.Tally.{Spread, SetCounted}
-use Rattle.range_query.proofs.Laws.Answers.{spread-steps, spread-first, spread-most}
+use Rattle.range_query.proofs.Laws.Answers.{spread-steps, spread-first}
 use Rattle.range_query.proofs.Laws.Halves.{pair-halves, pairs-from-start}
 use Rattle.range_query.proofs.Laws.Routes.{metres-within}
-
--- what a list's elements are made into
-map-at : (f : ℕ → ℕ) (l : List ℕ) (k : ℕ) → k < length l → getD (map f l) k 0 ≡ f (getD l k 0)
-map-at f [] k h = absurd (omega arith)
-map-at f (x ∷ l) zero h = refl
-map-at f (x ∷ l) (suc k) h = map-at f l k (omega arith)
 
 module _ {net : Network} {sets es xs ts edges offsets bounds setRuns table steps : List ℕ} (accepted : SetsAccepted net sets es xs) (up : ThresholdsAccepted ts)
     (p : Prepared net sets es xs ts edges offsets bounds setRuns table) (w : Spread ts steps) where
@@ -48,21 +42,12 @@ module _ {net : Network} {sets es xs ts edges offsets bounds setRuns table steps
   -- what is read for the runs of set s
   pub set-ready : Stored edges offsets bounds table → (s : ℕ) → s < setCount sets → RunsReady net table edges offsets bounds steps (getD setRuns s 0) (getD setRuns (suc s) 0)
   set-ready stored s h =
-      let net-is = accepted .is-network in
       let end : getD bounds (getD setRuns (suc s) 0) 0 ≡ startOf sets (suc s) = p .runs .set-begins (suc s) h in
       let inside : startOf sets (suc s) ≤ length es = set-ends s h in
       let few : length es ≤ maxEvents = accepted .are-events .few in
       let last : getD setRuns (suc s) 0 ≤ getD setRuns (setCount sets) 0 = set-runs-rise accepted p (suc s) (setCount sets) h (omega arith) in
       record {
-        held =
-            record {
-              firsts-length = net-is .firsts-length;
-              seconds-length = net-is .seconds-length;
-              nodes-to = net-is .nodes-to;
-              ends = net-is .ends;
-              length-to = net-is .length-to;
-              table-length = omega (arith, stored .table-length);
-            };
+        held = stored-table accepted stored;
         placed =
             record {
               few = omega arith;
@@ -86,11 +71,11 @@ module _ {net : Network} {sets es xs ts edges offsets bounds setRuns table steps
 
   -- two places are within a threshold exactly when their events are
   places-within : (k j i : ℕ) → k < length es → j < length es → i < length ts → leb (metresAt net table edges offsets k j) (getD ts i 0) ≡ within (eventDistance net (event (getD edges k 0) (getD offsets k 0)) (event (getD edges j 0) (getD offsets j 0))) (getD ts i 0)
-  unfolding metresAt greatest
+  unfolding metresAt
   places-within k j i h l in-list =
       let e = laid-is-event accepted p k h in
       let f = laid-is-event accepted p j l in
-      let most : getD ts i 0 ≤ greatest ts = rw (sub-one (length ts)) at (spread-most w up i in-list) in
+      let most = at-most-greatest ts up i in-list in
       let small : getD ts i 0 < 4294967296 = rw (spread-first w up i in-list) at (w .small i (omega (arith, up .few))) in
       let near : getD offsets j 0 < 4294967296 = omega (arith, f .on-edge, accepted .is-network .length-to (pred (getD edges j 0)) (omega (arith, f .from-one, f .to-edges))) in
       metres-within net (accepted .is-network .ends) table (event (getD edges k 0) (getD offsets k 0)) (event (getD edges j 0) (getD offsets j 0)) e f (getD ts i 0) (greatest ts) most small near (codes k j h l)
@@ -122,7 +107,7 @@ module _ {net : Network} {sets es xs ts edges offsets bounds setRuns table steps
   pub set-row-is : (s : ℕ) → s < setCount sets → (old row : List ℕ) → length old ≡ length ts → SetCounted steps (pairsFrom (metresAt net table edges offsets) (getD bounds (getD setRuns s 0) 0) (getD bounds (getD setRuns s 0) 0) (getD bounds (getD setRuns (suc s) 0) 0)) old row → row ≡ countRow net sets (events es xs) ts s
   unfolding countRow
   set-row-is s h old row long counted =
-      ext-getD 0 row (countRow net sets (events es xs) ts s) (counted .long ∙ long ∙ sym (row-length net sets es xs ts s)) (λ k l. entry-is k (omega (arith, counted .long)))
+      ext-getD 0 row (countRow net sets (events es xs) ts s) (counted .long ∙ long ∙ sym (count-row-length net sets (events es xs) ts s)) (λ k l. entry-is k (omega (arith, counted .long)))
     where
       entry-is : (k : ℕ) → k < length ts → getD row k 0 ≡ getD (countRow net sets (events es xs) ts s) k 0
       entry-is k l =

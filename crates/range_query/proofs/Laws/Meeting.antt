@@ -7,21 +7,13 @@ use native.Mathlib.Numerals.{add-one, sub-one}
 use native.Mathlib.Omega.{arith}
 use lib.ListN.{getD}
 use Rattle.model.specs.Network.{Network, size}
+use Rattle.prepare.proofs.Laws.RunPairs.{TwoRead}
 use Rattle.range_query.specs.Metres.{Ways, edgePair, metresAt}
 use Rattle.range_query.specs.Runs.{Apart, Block, RunsReady, pairsWithin, blockMetres}
 use Rattle.range_query.specs.Tally.{Steps, Added, Room}
 use Rattle.range_query.specs.declared.metres.EdgePair.{EdgePair}
 use Rattle.range_query.proofs.Laws.Runs.{pairs-cong, pairs-none, apart-beyond, bounds-rise, run-edge}
 use Rattle.range_query.proofs.Laws.Tally.{added-none, added-as}
-
--- the places and the edges that are read for runs a and b
-pub record Cut (edges bounds : List ℕ) (a b from to other-from other-to e f : ℕ) : Type 0 where
-  pub from-is : from ≡ getD bounds a 0
-  pub to-is : to ≡ getD bounds (a + 1) 0
-  pub other-from-is : other-from ≡ getD bounds b 0
-  pub other-to-is : other-to ≡ getD bounds (b + 1) 0
-  pub edge-is : e ≡ getD edges from 0
-  pub other-edge-is : f ≡ getD edges other-from 0
 
 -- the most pairs of two runs
 abbrev pub most : List ℕ → ℕ → ℕ → ℕ
@@ -60,10 +52,10 @@ module _ {net : Network} {table edges offsets bounds steps : List ℕ} {a b : �
   runs-added = added-as _ _ (omega arith) (λ k h. pairs-cong _ _ _ _ _ _ _ runs-metres)
 
 -- the pair of edges as it is read
-pub cut-pair : (net : Network) (table : List ℕ) {edges bounds : List ℕ} {a b from to other-from other-to e f : ℕ} {g : EdgePair} → Cut edges bounds a b from to other-from other-to e f → g ≡ edgePair net table (e - 1) (f - 1) → g ≡ edgePair net table (pred (getD edges (getD bounds a 0) 0)) (pred (getD edges (getD bounds b 0) 0))
+pub cut-pair : (net : Network) (table : List ℕ) {edges bounds : List ℕ} {a b from to other-from other-to e f : ℕ} {g : EdgePair} → TwoRead edges bounds a b from to other-from other-to e f → g ≡ edgePair net table (e - 1) (f - 1) → g ≡ edgePair net table (pred (getD edges (getD bounds a 0) 0)) (pred (getD edges (getD bounds b 0) 0))
 cut-pair net table {edges} {bounds} {a} {b} cut is = rw (cut .edge-is, cut .other-edge-is, cut .from-is, cut .other-from-is, sub-one (getD edges (getD bounds a 0) 0), sub-one (getD edges (getD bounds b 0) 0)) at is
 
-module _ {net : Network} {table edges offsets bounds steps : List ℕ} {a b : ℕ} (w : RunsReady net table edges offsets bounds steps b (suc a)) (le : b ≤ a) {from to other-from other-to e f : ℕ} (cut : Cut edges bounds a b from to other-from other-to e f) (g : EdgePair) (is : g ≡ edgePair net table (e - 1) (f - 1)) (ways : Ways g) where
+module _ {net : Network} {table edges offsets bounds steps : List ℕ} {a b : ℕ} (w : RunsReady net table edges offsets bounds steps b (suc a)) (le : b ≤ a) {from to other-from other-to e f : ℕ} (cut : TwoRead edges bounds a b from to other-from other-to e f) (g : EdgePair) (is : g ≡ edgePair net table (e - 1) (f - 1)) (ways : Ways g) where
   -- none of the pairs is within a threshold
   pub cut-apart : (buckets : List ℕ) → Apart g (getD steps 63 0) → Added steps buckets buckets (most bounds a b) (pairsWithin (metresAt net table edges offsets) (getD bounds a 0) (getD bounds (suc a) 0) (getD bounds b 0) (getD bounds (suc b) 0))
   cut-apart = runs-apart w le g ways (cut-pair net table cut is)

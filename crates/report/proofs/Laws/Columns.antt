@@ -12,7 +12,7 @@ use Rattle.model.specs.Events.{Event, greatestSet}
 use Rattle.model.specs.Network.{Network}
 use Rattle.printing.specs.Answers.{envelopeAt, rows, tableBytes}
 use Rattle.printing.specs.Bytes.{row}
-use Rattle.table.proofs.Laws.Counted.{map-at}
+use Rattle.model.proofs.Laws.Lists.{map-at}
 use Rattle.table.specs.Table.{ends, leasts, greatests}
 use Rattle.report.specs.Report.{tableRows, countsTable}
 

@@ -4,21 +4,20 @@ use mathlib.Core.Path.{_≡_, refl, sym, ap, _∙_}
 use Prim.Native.Nat.{ℕ, suc, _*_, _≤_}
 use native.Mathlib.Nat.{mul-le-mul}
 use native.Mathlib.Omega.{arith}
-use borrow.Author.Tests.{le-leb, leb-true}
-use lib.Dec.{leb}
+use borrow.Author.Tests.{le-leb}
 use lib.ListN.{length, drop, take}
 use Rattle.model.specs.Answer.{written}
-use Rattle.model.specs.Checks.{roomCheck, setsOverNetworkCheck, thresholdsCheck}
+use Rattle.model.specs.Checks.{setsOverNetworkCheck, thresholdsCheck}
 use Rattle.model.specs.Envelope.{observed, envelope}
 use Rattle.model.specs.Events.{events, greatestSet, setCount}
 use Rattle.model.specs.Limits.{maxSet, maxThresholds}
 use Rattle.model.specs.Network.{Network}
-use Rattle.model.specs.Refusal.{listsDiffer}
 use Rattle.model.specs.declared.check.Check.{Check}
 use Rattle.model.specs.declared.check.Check.the-variants as check
 use Rattle.model.proofs.Laws.Answer.{written-refused}
+use Rattle.model.proofs.Laws.CheckParts.{room-accepted}
 use Rattle.model.proofs.Laws.Checks.{sets-accepted, thresholds-accepted}
-use Rattle.model.proofs.Laws.Refusal.{both-accepted, both-accept, unless-accepted}
+use Rattle.model.proofs.Laws.Refusal.{both-accepted, both-accept}
 use Rattle.prepare.specs.Counts.{CountsAnswered, countsCheck, countTable}
 use Rattle.prepare.proofs.Laws.Verdict.{with-room}
 use Rattle.validate.proofs.SetSizes.{greatest-small}
@@ -31,11 +30,6 @@ use Rattle.table.proofs.Laws.Counted.{observed-row, columns-are}
 -- as many counts as there may be
 abbrev pub mostCounts : ℕ
 mostCounts = 2048
-
--- an answer list that has room for so many entries
-room-accepted : (n : ℕ) (answers : List ℕ) → roomCheck n answers ≡ check.Accepted → n ≤ length answers
-unfolding roomCheck
-room-accepted n answers e = leb-true _ _ (unless-accepted (leb n (length answers)) listsDiffer 0 e)
 
 -- accepted: there is room in the answer lists, and room for all counts
 pub record TableAccepted (net : Network) (sets es xs ts first second third : List ℕ) : Type 0 where

@@ -1,24 +1,17 @@
 -- The columns of the table of counts: the observed counts and the envelopes.
 use mathlib.Core.List.{List, [], _∷_, _++_, map, append-assoc}
 use mathlib.Core.Path.{_≡_, refl, ap, ap₂, _∙_}
-use Prim.Native.Nat.{ℕ, zero, suc, _+_, _*_, _≤_, _<_}
-use native.Mathlib.Nat.{suc-mul}
+use Prim.Native.Nat.{ℕ, zero, suc, _+_, _≤_, _<_}
 use native.Mathlib.Omega.{arith}
-use lib.ListN.{length, getD, take, List·getD-append}
-use lib.Seq.{take-at, getD-append-add}
+use lib.ListN.{length, getD, take}
+use lib.Seq.{take-at}
 use Rattle.model.specs.Counting.{numbersFrom}
 use Rattle.model.specs.Envelope.{envelopeOf, countOfSet, observed, envelope}
 use Rattle.model.specs.Events.{Event, greatestSet, setCount}
 use Rattle.model.specs.Network.{Network}
 use Rattle.prepare.specs.Counts.{countRow, countRows, countTable}
-use Rattle.prepare.proofs.Laws.Laying.{map-length}
+use Rattle.prepare.proofs.Laws.CountRows.{count-row-length, count-entry}
 use Rattle.table.specs.Columns.{columnFrom, columns}
-
--- what a function makes of the element at a place
-pub map-at : (f : ℕ → ℕ) (l : List ℕ) (k : ℕ) → k < length l → getD (map f l) k 0 ≡ f (getD l k 0)
-map-at f [] k h = absurd (omega arith)
-map-at f (x ∷ l) zero h = refl
-map-at f (x ∷ l) (suc k) h = map-at f l k (omega arith)
 
 -- two functions that agree on successive numbers
 map-same : (f g : ℕ → ℕ) (s n : ℕ) → ((j : ℕ) → s ≤ j → j < s + n → f j ≡ g j) → map f (numbersFrom s n) ≡ map g (numbersFrom s n)
@@ -37,46 +30,20 @@ map-places {A} f g (x ∷ l) s each =
     (map-places f g l (suc s) (λ k h. ap f {x = suc s + k} {y = s + suc k} (omega arith) ∙ each (suc k) (omega arith)))
 
 module _ (net : Network) (sets : List ℕ) (es : List Event) (ts : List ℕ) where
-  row-long : (s : ℕ) → length (countRow net sets es ts s) ≡ length ts
-  unfolding countRow
-  row-long s = map-length _ ts
-
-  row-at : (s k : ℕ) → k < length ts → getD (countRow net sets es ts s) k 0 ≡ countOfSet net sets es (getD ts k 0) s
-  unfolding countRow
-  row-at s k h = map-at (λ t. countOfSet net sets es t s) ts k h
-
-  -- the count of a set at a threshold, where it stands in the rows
-  entry-at : (s n j k : ℕ) (rest : List ℕ) → j < n → k < length ts → getD (countRows net sets es ts s n ++ rest) (j * length ts + k) 0 ≡ countOfSet net sets es (getD ts k 0) (s + j)
-  unfolding countRows
-  entry-at s zero j k rest h i = absurd (omega arith)
-  entry-at s (suc n) zero k rest h i =
-      let long = row-long s in
-      let at : 0 * length ts + k ≡ k = omega arith in
-      rw (append-assoc (countRow net sets es ts s) (countRows net sets es ts (suc s) n) rest, at)
-      (List·getD-append (countRow net sets es ts s) (countRows net sets es ts (suc s) n ++ rest) 0 k (omega arith)
-      ∙ row-at s k i
-      ∙ ap (countOfSet net sets es (getD ts k 0)) {x = s} {y = s + 0} (omega arith))
-  entry-at s (suc n) (suc j) k rest h i =
-      let at : suc j * length ts + k ≡ length (countRow net sets es ts s) + (j * length ts + k) = omega (arith, row-long s, suc-mul j (length ts)) in
-      rw (append-assoc (countRow net sets es ts s) (countRows net sets es ts (suc s) n) rest, at)
-      (getD-append-add (countRow net sets es ts s) (countRows net sets es ts (suc s) n ++ rest) (j * length ts + k) 0
-      ∙ entry-at (suc s) n j k rest (omega arith) i
-      ∙ ap (countOfSet net sets es (getD ts k 0)) {x = suc s + j} {y = s + suc j} (omega arith))
-
   -- the first row is the observed one
   pub observed-row : (rest : List ℕ) → take (length ts) (countTable net sets es ts ++ rest) ≡ map (observed net sets es) ts
   unfolding countTable countRows setCount observed countRow
   observed-row rest =
       rw (append-assoc (countRow net sets es ts 0) (countRows net sets es ts 1 (greatestSet sets)) rest)
-      (take-at (countRow net sets es ts 0) (countRows net sets es ts 1 (greatestSet sets) ++ rest) (length ts) (row-long 0))
+      (take-at (countRow net sets es ts 0) (countRows net sets es ts 1 (greatestSet sets) ++ rest) (length ts) (count-row-length net sets es ts 0))
 
   -- a column over the other rows is the envelope
   column-is : (rest : List ℕ) (k : ℕ) → k < length ts → columnFrom (countTable net sets es ts ++ rest) (length ts) k 1 (greatestSet sets) ≡ envelope net sets es (getD ts k 0)
-  unfolding columnFrom envelope countTable setCount
+  unfolding columnFrom envelope setCount
   column-is rest k h =
       ap envelopeOf
       (map-same _ (countOfSet net sets es (getD ts k 0)) 1 (greatestSet sets)
-      (λ j l i. entry-at 0 (suc (greatestSet sets)) j k rest (omega arith) h ∙ ap (countOfSet net sets es (getD ts k 0)) {x = 0 + j} {y = j} (omega arith)))
+      (λ j l i. count-entry net sets es ts rest j k (omega arith) h))
 
   pub columns-are : (rest : List ℕ) → columns (countTable net sets es ts ++ rest) (length ts) (greatestSet sets) ≡ map (envelope net sets es) ts
   unfolding columns

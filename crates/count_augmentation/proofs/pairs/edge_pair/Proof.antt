@@ -1,7 +1,8 @@
 -- Lengths and entries of the two edges.
 use Rattle.prepare.specs.Prepared.{entry}
 use Rattle.count_augmentation.specs.Pairs.{edgePair}
-use Rattle.count_augmentation.proofs.Laws.Pairs.{has-entry, same-pair}
+use Rattle.prepare.proofs.Laws.Square.{held-entry}
+use Rattle.count_augmentation.proofs.Laws.Pairs.{same-pair}
 use borrow.Author.Needs.{needs}
 use Rattle.count_augmentation.proofs.pairs.edge_pair.Statement.{statement}
 use Rattle.count_augmentation.proofs.pairs.edge_pair.Tie as tie
@@ -45,22 +46,22 @@ shared-slice-read-t21 c = search needs
 entry-requires : tie.Need-entry-requires
 entry-requires c κs =
     let start = c .before .before .before .before .before .before .before .before .before .before in
-    has-entry _ _ _ _ (start .pre .0) (start .pre .0 .ends .first-is (start .args .i) (start .pre .1 .0)) (start .pre .0 .ends .first-is (start .args .j) (start .pre .1 .1))
+    held-entry (start .pre .0) (start .pre .0 .ends .first-is (start .args .i) (start .pre .1 .0)) (start .pre .0 .ends .first-is (start .args .j) (start .pre .1 .1))
 
 entry-requires-2 : tie.Need-entry-requires-2
 entry-requires-2 c κs =
     let start = c .before .before .before .before .before .before .before .before .before .before .before in
-    has-entry _ _ _ _ (start .pre .0) (start .pre .0 .ends .first-is (start .args .i) (start .pre .1 .0)) (start .pre .0 .ends .second-is (start .args .j) (start .pre .1 .1))
+    held-entry (start .pre .0) (start .pre .0 .ends .first-is (start .args .i) (start .pre .1 .0)) (start .pre .0 .ends .second-is (start .args .j) (start .pre .1 .1))
 
 entry-requires-3 : tie.Need-entry-requires-3
 entry-requires-3 c κs =
     let start = c .before .before .before .before .before .before .before .before .before .before .before .before in
-    has-entry _ _ _ _ (start .pre .0) (start .pre .0 .ends .second-is (start .args .i) (start .pre .1 .0)) (start .pre .0 .ends .first-is (start .args .j) (start .pre .1 .1))
+    held-entry (start .pre .0) (start .pre .0 .ends .second-is (start .args .i) (start .pre .1 .0)) (start .pre .0 .ends .first-is (start .args .j) (start .pre .1 .1))
 
 entry-requires-4 : tie.Need-entry-requires-4
 entry-requires-4 c κs =
     let start = c .before .before .before .before .before .before .before .before .before .before .before .before .before in
-    has-entry _ _ _ _ (start .pre .0) (start .pre .0 .ends .second-is (start .args .i) (start .pre .1 .0)) (start .pre .0 .ends .second-is (start .args .j) (start .pre .1 .1))
+    held-entry (start .pre .0) (start .pre .0 .ends .second-is (start .args .i) (start .pre .1 .0)) (start .pre .0 .ends .second-is (start .args .j) (start .pre .1 .1))
 
 returns : tie.Need-returns
 unfolding edgePair entry

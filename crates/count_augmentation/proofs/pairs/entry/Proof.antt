@@ -1,40 +1,33 @@
 -- The entry lies within the table.
-use mathlib.Core.Path.{_≡_, ap₂}
-use Prim.Native.Nat.{ℕ, pred, _+_, _-_, _*_, _<_}
+use mathlib.Core.Path.{ap}
+use Prim.Native.Nat.{ℕ}
 use native.Mathlib.Omega.{arith}
 use lib.ListN.{getD}
-use Rattle.count_augmentation.proofs.Laws.Pairs.{in-square, square-small}
+use Rattle.prepare.proofs.Laws.Square.{in-square, square-small, place-as}
 use borrow.Author.Needs.{needs}
 use Rattle.count_augmentation.proofs.pairs.entry.Statement.{statement}
 use Rattle.count_augmentation.proofs.pairs.entry.Tie as tie
-
-inside : (c : tie.Start) → (c .args .u - 1) * c .args .nodes + (c .args .v - 1) < c .args .nodes * c .args .nodes
-inside c = in-square (c .args .nodes) (c .args .u - 1) (c .args .v - 1) (omega arith) (omega arith)
 
 sub-result : tie.Need-sub-result
 sub-result c = search needs
 
 mul-result : tie.Need-mul-result
-mul-result c = omega (arith, inside c, square-small (c .args .nodes) (c .pre .4))
+mul-result c = omega (arith, in-square (c .pre), square-small (c .pre))
 
 sub-result-2 : tie.Need-sub-result-2
 sub-result-2 c = search needs
 
 add-result : tie.Need-add-result
-add-result c = omega (arith, inside c, square-small (c .args .nodes) (c .pre .4))
+add-result c = omega (arith, in-square (c .pre), square-small (c .pre))
 
 mul-result-2 : tie.Need-mul-result-2
-mul-result-2 c = omega (arith, inside c, square-small (c .args .nodes) (c .pre .4))
+mul-result-2 c = omega (arith, in-square (c .pre), square-small (c .pre))
 
 shared-slice-read-result : tie.Need-shared-slice-read-result
-shared-slice-read-result c = omega (arith, inside (c .before))
+shared-slice-read-result c = omega (arith, in-square (c .before .pre), c .before .pre .room)
 
 returns : tie.Need-returns
-returns c =
-    let start = c .before .args in
-    let row : start .u - 1 ≡ pred (start .u) = omega arith in
-    let column : start .v - 1 ≡ pred (start .v) = omega arith in
-    ap₂ (λ (k l : ℕ). getD (start .table .now) (k * start .nodes + l) 0) row column
+returns c = ap (λ (k : ℕ). getD (c .before .args .table .now) k 0) (place-as (c .before .args .u) (c .before .args .v) (c .before .args .nodes))
 
 pub entry-spec : {M : Type 1} → statement M
 entry-spec =

@@ -5,7 +5,8 @@ use native.Mathlib.Omega.{arith}
 use lib.ListN.{length, getD}
 use Rattle.model.specs.Network.{network}
 use Rattle.prepare.specs.RunPairs.{RunsReady}
-use Rattle.count_augmentation.proofs.Laws.Meeting.{RunsRead, Within, end-table, within-list, in-offsets, edge-listed, edge-named, runs-asked, runs-added, runs-apart}
+use Rattle.prepare.proofs.Laws.RunPairs.{ready-table}
+use Rattle.count_augmentation.proofs.Laws.Meeting.{RunsRead, Within, within-list, in-offsets, edge-listed, edge-named, runs-asked, runs-added, runs-apart}
 use borrow.Author.Needs.{needs}
 use Rattle.count_augmentation.proofs.totals.add_runs.Statement.{statement}
 use Rattle.count_augmentation.proofs.totals.add_runs.Tie as tie
@@ -40,7 +41,7 @@ edge-index-requires-2 c κs = edge-listed (ready (c .before .before .before .bef
 
 edge-pair-requires : tie.Need-edge-pair-requires
 edge-pair-requires c κs = (
-  end-table (ready (c .before .before .before .before .before .before .before .before .before .before .before .before .before .before .before .before .before)),
+  ready-table (ready (c .before .before .before .before .before .before .before .before .before .before .before .before .before .before .before .before .before)),
   (edge-named (ready (c .before .before .before .before .before .before .before .before .before .before .before .before .before .before .before .before .before)) _ _ _ (c .before .before .before .before .before .before .before .before .before .before .before .before .before .before .before .before .before .pre .1) (omega arith) (c .before .before .before .before .before .bound .ensures) (c .before .edge-index .ensures), edge-named (ready (c .before .before .before .before .before .before .before .before .before .before .before .before .before .before .before .before .before)) _ _ _ (omega arith) (omega (arith, c .before .before .before .before .before .before .before .before .before .before .before .before .before .before .before .before .before .pre .1)) (c .before .before .before .bound3 .ensures) (c .edge-index2 .ensures)),
 )
 

@@ -8,7 +8,8 @@ use lib.ListN.{length}
 use Rattle.model.proofs.Laws.Checks.{network-accepted}
 use Rattle.model.specs.Network.{network}
 use Rattle.distance.proofs.Rooms.{ready}
-use Rattle.distance.proofs.Tables.{Filled, fill-none, part-length, row-end, fill-part, fill-all}
+use Rattle.model.proofs.Laws.Pieces.{part-long}
+use Rattle.distance.proofs.Tables.{Filled, fill-none, row-end, fill-part, fill-all}
 use Rattle.distance.proofs.table.fill_rows.Statement.{statement}
 use Rattle.distance.proofs.table.fill_rows.Tie as tie
 
@@ -56,7 +57,7 @@ fill-row-requires c κs =
     let here = c .before .before .before .before .before .loop in
     let test = c .before .before .before .before .loop-test .taken in (
       ready (network-accepted _ (start .pre .0 .accepted)) (record { from-one = omega arith; to-nodes = omega arith }) (omega (arith, start .pre .1 .dist-room, here .inv .2)) (omega (arith, start .pre .1 .front-room, here .inv .3)) (start .pre .1 .linked),
-      part-length (here .at) _ (here .rows) (row-end _ _ _ _ (here .inv .1) (start .pre .0) test .inside),
+      part-long (here .at) _ (here .rows) (row-end _ _ _ _ (here .inv .1) (start .pre .0) test .inside),
     )
 
 add-at : tie.Need-add-at Inv-loop μ-loop
@@ -76,7 +77,7 @@ loop-again c =
     let filled = c .before .before .before .before .before .before .fill-row in
     let inside = row-end _ _ _ _ (here .inv .1) (start .pre .0) test .inside in (
       omega arith,
-      fill-part _ _ _ _ {m = here .at + start .args .nodes - here .at} _ (omega arith) (here .inv .1) test inside (filled .kept .1 .1 .1 .1 .1 .1 .1 .1 .1 .1 .1 .0 ∙ part-length (here .at) _ (here .rows) inside) (filled .ensures),
+      fill-part _ _ _ _ {m = here .at + start .args .nodes - here .at} _ (omega arith) (here .inv .1) test inside (filled .kept .1 .1 .1 .1 .1 .1 .1 .1 .1 .1 .1 .0 ∙ part-long (here .at) _ (here .rows) inside) (filled .ensures),
       filled .kept .1 .1 .1 .1 .1 .1 .1 .1 .1 .0 ∙ here .inv .2,
       filled .kept .1 .1 .1 .1 .1 .1 .1 .1 .1 .1 .0 ∙ here .inv .3,
     )

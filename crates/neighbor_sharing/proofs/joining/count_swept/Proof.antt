@@ -4,7 +4,7 @@ use Prim.Native.Nat.{_-_, _*_, _≤_}
 use native.Mathlib.Omega.{arith}
 use Rattle.model.specs.Counting.{sumBelow}
 use Rattle.neighbor_sharing.specs.Joined.{joinedAt, joinedSum}
-use Rattle.neighbor_sharing.proofs.Laws.Reading.{sum-next}
+use Rattle.model.proofs.Laws.Counting.{sum-next}
 use borrow.Author.Needs.{needs}
 use Rattle.neighbor_sharing.proofs.joining.count_swept.Statement.{statement}
 use Rattle.neighbor_sharing.proofs.joining.count_swept.Tie as tie

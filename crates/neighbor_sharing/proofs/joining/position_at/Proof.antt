@@ -2,7 +2,7 @@
 use Prim.Native.Nat.{_+_, _*_, _<_}
 use native.Mathlib.Omega.{arith}
 use Rattle.neighbor_sharing.specs.Joined.{positionAt}
-use Rattle.neighbor_sharing.proofs.Laws.Reading.{in-rows}
+use Rattle.prepare.proofs.Laws.Square.{in-rows}
 use borrow.Author.Needs.{needs}
 use Rattle.neighbor_sharing.proofs.joining.position_at.Statement.{statement}
 use Rattle.neighbor_sharing.proofs.joining.position_at.Tie as tie

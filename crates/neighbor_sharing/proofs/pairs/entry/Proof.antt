@@ -3,7 +3,7 @@ use mathlib.Core.Path.{ap}
 use Prim.Native.Nat.{ℕ}
 use native.Mathlib.Omega.{arith}
 use lib.ListN.{getD}
-use Rattle.neighbor_sharing.proofs.Laws.Apart.{in-square, square-small, place-as}
+use Rattle.prepare.proofs.Laws.Square.{in-square, square-small, place-as}
 use borrow.Author.Needs.{needs}
 use Rattle.neighbor_sharing.proofs.pairs.entry.Statement.{statement}
 use Rattle.neighbor_sharing.proofs.pairs.entry.Tie as tie

@@ -1,7 +1,8 @@
 -- Lengths and entries of the two edges.
 use Rattle.prepare.specs.Prepared.{entry}
 use Rattle.neighbor_sharing.specs.Runs.{tableEdges}
-use Rattle.neighbor_sharing.proofs.Laws.Apart.{held-entry, same-edges}
+use Rattle.prepare.proofs.Laws.Square.{held-entry}
+use Rattle.neighbor_sharing.proofs.Laws.Apart.{same-edges}
 use borrow.Author.Needs.{needs}
 use Rattle.neighbor_sharing.proofs.pairs.table_edges.Statement.{statement}
 use Rattle.neighbor_sharing.proofs.pairs.table_edges.Tie as tie

@@ -2,7 +2,8 @@
 use Prim.Native.Nat.{_-_, _≤_, _<_}
 use native.Mathlib.Omega.{arith}
 use lib.ListN.{length}
-use Rattle.neighbor_sharing.proofs.Laws.Meeting.{Cut, PartsIn, ready-held, run-listed, run-named, edge-a, edge-b, parts-in, sweepable, counted, left-at-once}
+use Rattle.prepare.proofs.Laws.RunPairs.{TwoRead, ready-table}
+use Rattle.neighbor_sharing.proofs.Laws.Meeting.{PartsIn, run-listed, run-named, edge-a, edge-b, parts-in, sweepable, counted, left-at-once}
 use borrow.Author.Needs.{needs}
 use Rattle.neighbor_sharing.proofs.runs.meet_runs.Statement.{statement}
 use Rattle.neighbor_sharing.proofs.runs.meet_runs.Tie as tie
@@ -12,7 +13,7 @@ abbrev call : tie.After-place6 → tie.Start
 call c = c .before .before .before .before .before .before .before .before .before .before .before .before .before .before .before
 
 -- what is read for them
-read : (c : tie.After-place6) → Cut (call c .args .edges .now) (call c .args .bounds .now) (call c .args .a) (call c .args .b) (c .before .before .before .before .before .place .result) (c .before .before .before .before .place2 .result) (c .before .before .before .place3 .result) (c .before .before .place4 .result) (c .before .place5 .result) (c .place6 .result)
+read : (c : tie.After-place6) → TwoRead (call c .args .edges .now) (call c .args .bounds .now) (call c .args .a) (call c .args .b) (c .before .before .before .before .before .place .result) (c .before .before .before .before .place2 .result) (c .before .before .before .place3 .result) (c .before .before .place4 .result) (c .before .place5 .result) (c .place6 .result)
 read c =
     record {
       from-is = c .before .before .before .before .before .place .ensures;
@@ -65,7 +66,7 @@ sub-table-edges-2 : tie.Need-sub-table-edges-2
 sub-table-edges-2 c = second-named c .0
 
 table-edges-requires : tie.Need-table-edges-requires
-table-edges-requires c κs = (ready-held (call c .pre .0), first-named c .1, second-named c .1)
+table-edges-requires c κs = (ready-table (call c .pre .0), first-named c .1, second-named c .1)
 
 is-apart-requires : tie.Need-is-apart-requires
 is-apart-requires c κs = search needs

@@ -6,7 +6,7 @@ use native.Mathlib.Omega.{arith}
 use lib.ListN.{length}
 use Rattle.model.specs.Network.{network}
 use Rattle.prepare.proofs.Laws.AllSets.{Begun, begun, SetsWritten, sets-begin, row-fits, row-asks, set-written, refused-answered, all-answered}
-use Rattle.neighbor_sharing.proofs.Laws.Marks.{part-length}
+use Rattle.model.proofs.Laws.Pieces.{part-long}
 use Rattle.neighbor_sharing.proofs.Laws.Totals.{lent-arrays}
 use borrow.Author.Needs.{needs}
 use Rattle.neighbor_sharing.proofs.sets.count_sets.Statement.{statement}
@@ -90,7 +90,7 @@ set-row-requires c κs = (
         table-length = c .before .before .before .before .before .before .before .before .before .set-row-arg2 .given .0;
       })
       (c .before .before .before .before .before .before .before .before .before .before .before .before .before .before .before .before .before .loop-test .taken) (c .before .before .before .before .before .before .before .before .before .before .before .before .before .before .place .ensures) (c .before .before .before .before .before .before .before .before .before .before .before .place2 .ensures),
-  part-length (c .before .before .before .before .before .before .before .before .before .before .before .before .before .before .before .before .before .before .loop .start) _ (c .before .before .before .before .before .before .before .before .before .before .before .before .before .before .before .before .before .before .loop .answers) (next-fits (c .before .before .before .before .before .before .before .before .before .before .before .before .before .before .before .before .before)),
+  part-long (c .before .before .before .before .before .before .before .before .before .before .before .before .before .before .before .before .before .before .loop .start) _ (c .before .before .before .before .before .before .before .before .before .before .before .before .before .before .before .before .before .before .loop .answers) (next-fits (c .before .before .before .before .before .before .before .before .before .before .before .before .before .before .before .before .before)),
   lent-arrays (c .before .before .set-row-arg9 .given .0 .1) (c .before .set-row-arg10 .given .0 .1),
 )
 

@@ -2,7 +2,8 @@
 use borrow.Author.Tests.{not-true, not-false}
 use mathlib.Core.Path.{_∙_, refl, ap}
 use lib.ListN.{replicate}
-use Rattle.neighbor_sharing.proofs.Laws.Marks.{part-none, part-swept, part-length}
+use Rattle.model.proofs.Laws.Pieces.{part-long}
+use Rattle.neighbor_sharing.proofs.Laws.Marks.{part-none, part-swept}
 use borrow.Author.Needs.{needs}
 use Rattle.neighbor_sharing.proofs.sweep.sweep_part.Statement.{statement}
 use Rattle.neighbor_sharing.proofs.sweep.sweep_part.Tie as tie
@@ -32,7 +33,7 @@ returns : tie.Need-returns
 returns c =
     let start = c .before .before .before .before .before .before .before .before in
     let a = start .args in
-    part-none _ _ _ _ _ _ (a .positions .now) _ _ (not-true _ (c .before .before .before .if1 .taken)) (start .pre .room) (c .before .before .clear .ensures ∙ ap (λ n. replicate n 0) (part-length (a .from) _ (a .positions .now) (start .pre .room))) refl
+    part-none _ _ _ _ _ _ (a .positions .now) _ _ (not-true _ (c .before .before .before .if1 .taken)) (start .pre .room) (c .before .before .clear .ensures ∙ ap (λ n. replicate n 0) (part-long (a .from) _ (a .positions .now) (start .pre .room))) refl
 
 sweep-requires : tie.Need-sweep-requires
 sweep-requires c κs = search needs

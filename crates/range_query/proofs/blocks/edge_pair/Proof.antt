@@ -1,6 +1,7 @@
 -- The four ways are those of the table between the edges' ends.
 use Rattle.prepare.specs.Prepared.{entry}
-use Rattle.range_query.proofs.Laws.Table.{held-entry, edge-pair-as}
+use Rattle.prepare.proofs.Laws.Square.{held-entry}
+use Rattle.range_query.proofs.Laws.Table.{edge-pair-as}
 use borrow.Author.Needs.{needs}
 use Rattle.range_query.proofs.blocks.edge_pair.Statement.{statement}
 use Rattle.range_query.proofs.blocks.edge_pair.Tie as tie
@@ -48,16 +49,16 @@ wide-requires-2 : tie.Need-wide-requires-2
 wide-requires-2 c κs = search needs
 
 way-between-requires : tie.Need-way-between-requires
-way-between-requires c κs = let p = c .before .before .before .before .before .before .before .before .before .before .before .before .pre in held-entry _ _ (p .0) (p .0 .ends .first-is _ (p .1)) (p .0 .ends .first-is _ (p .2))
+way-between-requires c κs = let p = c .before .before .before .before .before .before .before .before .before .before .before .before .pre in held-entry (p .0) (p .0 .ends .first-is _ (p .1)) (p .0 .ends .first-is _ (p .2))
 
 way-between-requires-2 : tie.Need-way-between-requires-2
-way-between-requires-2 c κs = let p = c .before .before .before .before .before .before .before .before .before .before .before .before .before .pre in held-entry _ _ (p .0) (p .0 .ends .first-is _ (p .1)) (p .0 .ends .second-is _ (p .2))
+way-between-requires-2 c κs = let p = c .before .before .before .before .before .before .before .before .before .before .before .before .before .pre in held-entry (p .0) (p .0 .ends .first-is _ (p .1)) (p .0 .ends .second-is _ (p .2))
 
 way-between-requires-3 : tie.Need-way-between-requires-3
-way-between-requires-3 c κs = let p = c .before .before .before .before .before .before .before .before .before .before .before .before .before .before .pre in held-entry _ _ (p .0) (p .0 .ends .second-is _ (p .1)) (p .0 .ends .first-is _ (p .2))
+way-between-requires-3 c κs = let p = c .before .before .before .before .before .before .before .before .before .before .before .before .before .before .pre in held-entry (p .0) (p .0 .ends .second-is _ (p .1)) (p .0 .ends .first-is _ (p .2))
 
 way-between-requires-4 : tie.Need-way-between-requires-4
-way-between-requires-4 c κs = let p = c .before .before .before .before .before .before .before .before .before .before .before .before .before .before .before .pre in held-entry _ _ (p .0) (p .0 .ends .second-is _ (p .1)) (p .0 .ends .second-is _ (p .2))
+way-between-requires-4 c κs = let p = c .before .before .before .before .before .before .before .before .before .before .before .before .before .before .before .pre in held-entry (p .0) (p .0 .ends .second-is _ (p .1)) (p .0 .ends .second-is _ (p .2))
 
 returns : tie.Need-returns
 unfolding entry

@@ -2,7 +2,8 @@
 use Prim.Native.Nat.{_-_, _≤_, _<_}
 use native.Mathlib.Omega.{arith}
 use lib.ListN.{length}
-use Rattle.range_query.proofs.Laws.Meeting.{Cut, cut-apart, cut-block, cut-added}
+use Rattle.prepare.proofs.Laws.RunPairs.{TwoRead}
+use Rattle.range_query.proofs.Laws.Meeting.{cut-apart, cut-block, cut-added}
 use Rattle.range_query.proofs.Laws.Runs.{run-named, run-listed}
 use borrow.Author.Needs.{needs}
 use Rattle.range_query.proofs.runs.meet_runs.Statement.{statement}
@@ -40,7 +41,7 @@ second-named : (c : tie.After-place6) → (1 ≤ c .place6 .result) × (c .place
 second-named c = let p = c .before .before .before .before .before .before .before .before .before .before .before .before .before .pre in run-named (p .0) _ _ _ (omega arith) (omega arith) (c .before .before .before .place3 .ensures) (c .place6 .ensures)
 
 -- what is read for them
-read : (c : tie.After-place6) → Cut (c .before .before .before .before .before .before .before .before .before .before .before .before .before .args .edges .now) (c .before .before .before .before .before .before .before .before .before .before .before .before .before .args .bounds .now) (c .before .before .before .before .before .before .before .before .before .before .before .before .before .args .a) (c .before .before .before .before .before .before .before .before .before .before .before .before .before .args .b) (c .before .before .before .before .before .place .result) (c .before .before .before .before .place2 .result) (c .before .before .before .place3 .result) (c .before .before .place4 .result) (c .before .place5 .result) (c .place6 .result)
+read : (c : tie.After-place6) → TwoRead (c .before .before .before .before .before .before .before .before .before .before .before .before .before .args .edges .now) (c .before .before .before .before .before .before .before .before .before .before .before .before .before .args .bounds .now) (c .before .before .before .before .before .before .before .before .before .before .before .before .before .args .a) (c .before .before .before .before .before .before .before .before .before .before .before .before .before .args .b) (c .before .before .before .before .before .place .result) (c .before .before .before .before .place2 .result) (c .before .before .before .place3 .result) (c .before .before .place4 .result) (c .before .place5 .result) (c .place6 .result)
 read c =
     record {
       from-is = c .before .before .before .before .before .place .ensures;
