@@ -1,5 +1,5 @@
 -- What the functions that cut the events into runs keep: cited by inner functions alone.
-use mathlib.Core.Bool.{Bool, _||_, not}
+use mathlib.Core.Bool.{Bool, true, _||_, not}
 use mathlib.Core.List.{List}
 use mathlib.Core.Path.{_≡_}
 use Prim.Native.Nat.{ℕ, suc, pred, _≤_, _<_}
@@ -33,6 +33,7 @@ pub record CutTo (edges bounds : List ℕ) (r to r′ : ℕ) (bounds′ : List �
   pub ends : getD bounds′ r′ 0 ≡ to
   pub more : r ≤ r′
   pub kept : (q : ℕ) → q ≤ r → getD bounds′ q 0 ≡ getD bounds q 0
+  pub cuts : (q : ℕ) → r < q → q ≤ r′ → endsRun edges to (getD bounds′ q 0) ≡ true
 
 -- rising starts of n sets of events, and room for their runs
 pub record Startable (starts edges bounds setRuns : List ℕ) (n : ℕ) : Type 0 where
@@ -52,3 +53,4 @@ pub record SetsCut (starts edges bounds setRuns : List ℕ) (n : ℕ) : Type 0 w
   pub in-order : (s : ℕ) → s < n → getD setRuns s 0 ≤ getD setRuns (suc s) 0
   pub below : (s : ℕ) → s ≤ n → getD setRuns s 0 ≤ getD setRuns n 0
   pub set-begins : (s : ℕ) → s ≤ n → getD bounds (getD setRuns s 0) 0 ≡ getD starts s 0
+  pub cuts : (s q : ℕ) → s < n → getD setRuns s 0 < q → q ≤ getD setRuns (suc s) 0 → endsRun edges (getD starts (suc s) 0) (getD bounds q 0) ≡ true

@@ -33,13 +33,14 @@ startOf sets s = sumBelow s (setSize sets)
 unfoldable pub greatest : List ℕ → ℕ
 greatest ts = getD ts (pred (length ts)) 0
 
--- runs: places bound 0 = 0 < bound 1 < .. < bound r = n that cut the events so that each run lies on one edge of one set;
+-- runs: places bound 0 = 0 < bound 1 < .. < bound r = n that cut the events so that each run is all that one set has on one edge;
 -- the runs of set s are those from number setRuns s on, below setRuns (s + 1)
 pub record Runs (sets edges bounds setRuns : List ℕ) (n : ℕ) : Type 0 where
   pub begins : getD setRuns 0 0 ≡ 0
   pub at-zero : getD bounds 0 0 ≡ 0
   pub rising : (r : ℕ) → r < getD setRuns (setCount sets) 0 → getD bounds r 0 < getD bounds (suc r) 0
   pub one-edge : (r k : ℕ) → r < getD setRuns (setCount sets) 0 → getD bounds r 0 ≤ k → k < getD bounds (suc r) 0 → getD edges k 0 ≡ getD edges (getD bounds r 0) 0
+  pub whole : (s r : ℕ) → s < setCount sets → getD setRuns s 0 < r → r < getD setRuns (suc s) 0 → getD edges (getD bounds r 0) 0 ≡ getD edges (pred (getD bounds r 0)) 0 → ⊥
   pub in-order : (s : ℕ) → s < setCount sets → getD setRuns s 0 ≤ getD setRuns (suc s) 0
   pub set-begins : (s : ℕ) → s ≤ setCount sets → getD bounds (getD setRuns s 0) 0 ≡ startOf sets s
   pub few : getD setRuns (setCount sets) 0 ≤ n

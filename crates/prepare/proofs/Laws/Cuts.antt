@@ -1,16 +1,16 @@
 -- Cutting laid-out events into runs: how the loops go.
-use mathlib.Core.Bool.{Bool, true, false, not, _||_}
+use mathlib.Core.Bool.{Bool, true, false, not, _||_, false≢true}
 use mathlib.Core.List.{List}
 use mathlib.Core.Logic.{⊎-elim}
 use mathlib.Core.Path.{_≡_, refl, sym, ap, _∙_}
-use Prim.Native.Nat.{ℕ, suc, pred, _+_, _≤_, _<_}
+use Prim.Native.Nat.{ℕ, zero, suc, pred, _+_, _≤_, _<_}
 use native.Mathlib.Nat.{eq-or-lt-of-le}
 use native.Mathlib.Numerals.{add-one}
 use native.Mathlib.Omega.{arith}
 use lib.Dec.{eqb}
 use lib.ListN.{length, getD, set}
 use lib.Seq.{getD-set-same, getD-set-other}
-use borrow.Author.Tests.{eqb-true, eqb-false}
+use borrow.Author.Tests.{eqb-true, eqb-false, eq-eqb, ne-eqb}
 use Rattle.prepare.specs.Cutting.{Cut, endsRun, Cuttable, CutTo, Startable, SetsCut}
 
 -- no run ends at a place: it is not the last, and the edge is the one before it
@@ -22,6 +22,24 @@ run-goes-on edges to k e = go (eqb k to) refl (eqb (getD edges k 0) (getD edges 
     go true p b q f = absurd (let z : _≡_ {A = ℕ} 0 1 = cc in omega arith)
     go false p true q f = (eqb-false _ _ p, eqb-true _ _ q)
     go false p false q f = absurd (let z : _≡_ {A = ℕ} 0 1 = cc in omega arith)
+
+-- a run ends at a place that is not the last: the edge changes
+pub run-changes : (edges : List ℕ) (to k : ℕ) → endsRun edges to k ≡ true → k < to → getD edges k 0 ≡ getD edges (pred k) 0 → ⊥
+unfolding endsRun
+run-changes edges to k e h same =
+    let told : (eqb k to || not (eqb (getD edges k 0) (getD edges (pred k) 0))) ≡ true = e in
+    go (rw (ne-eqb k to (λ q. omega arith), eq-eqb _ _ same) at told)
+  where
+    go : false ≡ true → ⊥
+    go f = false≢true f
+
+-- later runs begin later
+pub bounds-climb : (edges bounds : List ℕ) (n : ℕ) → Cut edges bounds n → (r q : ℕ) → r < q → q ≤ n → getD bounds r 0 < getD bounds q 0
+bounds-climb edges bounds n cut r zero h l = absurd (omega arith)
+bounds-climb edges bounds n cut r (suc q) h l =
+    ⊎-elim (λ e. rw e (cut .rising q l))
+    (λ less. omega (arith, bounds-climb edges bounds n cut r q less (omega arith), cut .rising q l))
+    (eq-or-lt-of-le {n = r} {m = q} (omega arith))
 
 -- entries in front of the one that is stored stay
 kept-below : (bounds : List ℕ) (r b q : ℕ) → q < r → getD (set bounds r b) q 0 ≡ getD bounds q 0
@@ -73,6 +91,7 @@ pub record CutSoFar (edges bounds : List ℕ) (runs to : ℕ) (bounds′ : List 
   pub within : k ≤ to
   pub on-edge : (j : ℕ) → getD bounds′ r 0 ≤ j → j ≤ k → getD edges j 0 ≡ getD edges (getD bounds′ r 0) 0
   pub closed : k ≡ to → getD bounds′ r 0 ≡ to
+  pub cuts : (q : ℕ) → runs < q → q ≤ r → endsRun edges to (getD bounds′ q 0) ≡ true
 
 module _ (edges bounds : List ℕ) (runs from to : ℕ) (asked : Cuttable edges bounds runs from to) where
   pub cut-begins : CutSoFar edges bounds runs to bounds runs from
@@ -87,6 +106,7 @@ module _ (edges bounds : List ℕ) (runs from to : ℕ) (asked : Cuttable edges 
         within = in-order;
         on-edge = λ j low high. ap (λ (n : ℕ). getD edges n 0) (omega arith);
         closed = λ e. begins ∙ e;
+        cuts = λ q h l. absurd (omega arith);
       }
 
   module _ (bounds′ : List ℕ) (r k : ℕ) (long : length bounds′ ≡ length bounds) (so-far : CutSoFar edges bounds runs to bounds′ r k) (inside : k < to) where
@@ -94,8 +114,8 @@ module _ (edges bounds : List ℕ) (runs from to : ℕ) (asked : Cuttable edges 
     run-room = omega (arith, so-far .cut .few, so-far .reached, asked .room)
 
     -- the run ends at the next place
-    pub cut-here : CutSoFar edges bounds runs to (set bounds′ (suc r) (suc k)) (suc r) (suc k)
-    cut-here =
+    pub cut-here : endsRun edges to (suc k) ≡ true → CutSoFar edges bounds runs to (set bounds′ (suc r) (suc k)) (suc r) (suc k)
+    cut-here ends =
         let reached = so-far .reached in
         let more = so-far .more in
         let last : getD (set bounds′ (suc r) (suc k)) (suc r) 0 ≡ suc k = getD-set-same bounds′ (suc r) (suc k) 0 run-room in
@@ -107,6 +127,10 @@ module _ (edges bounds : List ℕ) (runs from to : ℕ) (asked : Cuttable edges 
           within = omega arith;
           on-edge = λ j low high. ap (λ (n : ℕ). getD edges n 0) (omega arith);
           closed = λ e. last ∙ e;
+          cuts = λ q h l.
+              ⊎-elim (λ same. ap (endsRun edges to) (ap (λ (n : ℕ). getD (set bounds′ (suc r) (suc k)) n 0) same ∙ last) ∙ ends)
+              (λ less. rw (kept-below bounds′ (suc r) (suc k) q less) (so-far .cuts q h (omega arith)))
+              (eq-or-lt-of-le {n = q} {m = suc r} l);
         }
 
     -- it goes on
@@ -125,12 +149,13 @@ module _ (edges bounds : List ℕ) (runs from to : ℕ) (asked : Cuttable edges 
               (λ less. so-far .on-edge j low (omega arith))
               (eq-or-lt-of-le {n = j} {m = suc k} high);
           closed = λ last. absurd (goes-on .0 last);
+          cuts = so-far .cuts;
         }
 
   pub cut-ends : (bounds′ : List ℕ) (r k : ℕ) → CutSoFar edges bounds runs to bounds′ r k → to ≤ k → CutTo edges bounds runs to r bounds′
   cut-ends bounds′ r k so-far h =
       let within = so-far .within in
-      record { cut = so-far .cut; ends = so-far .closed (omega arith); more = so-far .more; kept = so-far .kept }
+      record { cut = so-far .cut; ends = so-far .closed (omega arith); more = so-far .more; kept = so-far .kept; cuts = so-far .cuts }
 
 -- the same for the loop over the sets: at the start no set is cut
 pub sets-begin : (starts edges bounds setRuns : List ℕ) → 0 < length bounds → 0 < length setRuns → getD starts 0 0 ≡ 0
@@ -149,6 +174,7 @@ sets-begin starts edges bounds setRuns room runs-room e =
       in-order = λ s h. absurd (omega arith);
       below = λ s h. let first : s ≡ 0 = omega arith in rw first (omega arith);
       set-begins = λ s h. let first : s ≡ 0 = omega arith in rw (first, begins) (at-zero ∙ sym e);
+      cuts = λ s q h. absurd (omega arith);
     }
 
 -- one set more is cut
@@ -181,6 +207,19 @@ module _ (starts edges bounds setRuns : List ℕ) (s : ℕ) (so-far : SetsCut st
       (λ l. rw (earlier q (omega arith)) (next .kept _ (so-far .below q (omega arith)) ∙ so-far .set-begins q (omega arith)))
       (eq-or-lt-of-le {n = q} {m = suc s} h)
 
+  set-cuts : (t q : ℕ) → t < suc s → getD noted t 0 < q → q ≤ getD noted (suc t) 0 → endsRun edges (getD starts (suc t) 0) (getD bounds′ q 0) ≡ true
+  set-cuts t q h low high =
+      ⊎-elim
+      (λ e.
+      let begins : getD noted t 0 ≡ getD setRuns s 0 = ap (λ (n : ℕ). getD noted n 0) e ∙ earlier s (omega arith) in
+      let ends : getD noted (suc t) 0 ≡ r = ap (λ (n : ℕ). getD noted (suc n) 0) e ∙ newest in
+      rw e (next .cuts q (omega arith) (omega arith)))
+      (λ l.
+      let begins : getD noted t 0 ≡ getD setRuns t 0 = earlier t (omega arith) in
+      let ends : getD noted (suc t) 0 ≡ getD setRuns (suc t) 0 = earlier (suc t) l in
+      rw (next .kept q (omega (arith, so-far .below (suc t) l))) (so-far .cuts t q l (omega arith) (omega arith)))
+      (eq-or-lt-of-le {n = t} {m = s} (omega arith))
+
   pub one-set-more : SetsCut starts edges bounds′ noted (suc s)
   one-set-more =
       record {
@@ -189,6 +228,7 @@ module _ (starts edges bounds setRuns : List ℕ) (s : ℕ) (so-far : SetsCut st
         in-order = set-in-order;
         below = set-below;
         set-begins = set-at;
+        cuts = set-cuts;
       }
 
 -- a turn of the loop over the sets, in the terms of the code

@@ -13,6 +13,7 @@ use Rattle.prepare.specs.Cutting.{Startable, SetsCut}
 use Rattle.prepare.specs.Laying.{SetsFit, SetsLaid, Layable, RunsLaid}
 use Rattle.prepare.specs.Marking.{Endable, EndsFilled}
 use Rattle.prepare.specs.Prepared.{grouped, startOf, greatest, Prepared}
+use Rattle.prepare.proofs.Laws.Cuts.{run-changes, bounds-climb}
 use Rattle.prepare.proofs.Laws.Groups.{start-first, start-next, starts-rise, events-total}
 
 -- no number above a bound: the greatest is not above it
@@ -97,6 +98,9 @@ module _ (sets es xs edges offsets bounds setRuns : List ℕ) (asked : Layable s
             at-zero = cut .cut .at-zero;
             rising = cut .cut .rising;
             one-edge = cut .cut .one-edge;
+            whole = λ s r h low high.
+                run-changes edges′ (getD starts (suc s) 0) (getD bounds′ r 0) (cut .cuts s r h low (omega arith))
+                (omega (arith, bounds-climb edges′ bounds′ _ (cut .cut) r (getD setRuns′ (suc s) 0) high (cut .below (suc s) h), cut .set-begins (suc s) h));
             in-order = cut .in-order;
             set-begins = λ s h. cut .set-begins s h ∙ start-at s h;
             few = omega (arith, cut .cut .few, cut .set-begins (setCount sets) (omega arith), start-at (setCount sets) (omega arith));

@@ -43,7 +43,8 @@ loop-again : tie.Need-loop-again Inv-loop μ-loop
 loop-again c =
     let start = c .before .before .before .before .before .before in
     let loop = c .before .before .before .loop in
-    (simp length-set (loop .inv .0), simp add-one (cut-here _ _ _ _ _ (start .pre) _ _ _ (loop .inv .0) (loop .inv .1) (omega arith)))
+    let here = sym (c .before .ends-run .ensures) ∙ c .if1 .taken in
+    (simp length-set (loop .inv .0), simp add-one (cut-here _ _ _ _ _ (start .pre) _ _ _ (loop .inv .0) (loop .inv .1) (omega arith) (simp add-one at here)))
 
 loop-less-2 : tie.Need-loop-less-2 Inv-loop μ-loop
 loop-less-2 c = search needs
