@@ -226,15 +226,23 @@ fn large_folders() {
     let Some(proved) = program() else { return };
     let folder = folder("large_folders");
     let mut rng = Rng::new(301);
-    for (nodes, legs, sets, per_set, on_legs) in
-        [(512, 1_024, 32, 150, 0), (512, 1_024, 1, 4_700, 0), (512, 1_024, 1, 4_700, 9), (40, 60, 32, 160, 4)]
-    {
+    // Spread over all legs and crowded on few, so that each method has its turn.
+    for (nodes, legs, sets, per_set, on_legs, thresholds) in [
+        (512, 1_024, 32, 150, 0, 64),
+        (512, 1_024, 1, 4_700, 0, 64),
+        (512, 1_024, 1, 4_700, 0, 2),
+        (512, 1_024, 1, 4_700, 9, 64),
+        (512, 1_024, 1, 4_700, 3, 64),
+        (40, 60, 32, 160, 4, 64),
+        (40, 60, 32, 160, 4, 3),
+        (40, 60, 4, 1_000, 12, 6),
+    ] {
         let input = random::ring_network(&mut rng, nodes, legs, 1_000);
         let reports = random::reports(&mut rng, &input, sets, per_set, on_legs);
         let files = [
             Text(random::network_text(&mut rng, &input)),
             Text(random::reports_text(&mut rng, &reports)),
-            Text(random::thresholds_text(&mut rng, &random::even_thresholds(64, 5_000))),
+            Text(random::thresholds_text(&mut rng, &random::even_thresholds(thresholds, 5_000))),
         ];
         let told = compare(&proved, &folder, &files);
         assert!(told.starts_with("threshold,"), "{told}");

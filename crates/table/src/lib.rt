@@ -2,6 +2,7 @@
 mod answers;
 mod checks;
 mod columns;
+mod fastest;
 mod sets;
 mod spans;
 
