@@ -1,0 +1,151 @@
+//! Times the proved program beside the plain one on the same folders:
+//! `program_bench PROVED PLAIN FOLDER [WORD]` makes the folders in FOLDER, runs
+//! both programs in each by turns, checks that they print the same bytes, and
+//! prints the least time on the processor and the peak memory of each. WORD
+//! leaves only the lines that have it.
+
+use std::fs::{self, File};
+use std::io;
+use std::os::unix::process::CommandExt;
+use std::path::{Path, PathBuf};
+use std::process::Command;
+
+use reference::random::{self, Rng};
+use reference::table::FILES;
+use reference::text::MAX_TEXT;
+
+struct Case {
+    what: &'static str,
+    nodes: u32,
+    legs: usize,
+    /// No leg is longer; short ones leave room for more rows in a text.
+    longest: u32,
+    sets: u32,
+    per_set: usize,
+    /// 0 for all legs.
+    on_legs: usize,
+    thresholds: usize,
+}
+
+#[rustfmt::skip]
+const CASES: [Case; 18] = [
+    Case { what: "tiny", nodes: 4, legs: 4, longest: 9, sets: 3, per_set: 4, on_legs: 0, thresholds: 4 },
+    Case { what: "reports 1", nodes: 512, legs: 1_024, longest: 999, sets: 1, per_set: 1_000, on_legs: 0, thresholds: 64 },
+    Case { what: "reports 2", nodes: 512, legs: 1_024, longest: 999, sets: 1, per_set: 2_000, on_legs: 0, thresholds: 64 },
+    Case { what: "reports 3", nodes: 512, legs: 1_024, longest: 999, sets: 1, per_set: 4_000, on_legs: 0, thresholds: 64 },
+    Case { what: "reports 4", nodes: 512, legs: 1_024, longest: 9, sets: 1, per_set: 6_600, on_legs: 0, thresholds: 64 },
+    Case { what: "legs 1", nodes: 32, legs: 64, longest: 999, sets: 1, per_set: 5_000, on_legs: 0, thresholds: 64 },
+    Case { what: "legs 2", nodes: 128, legs: 256, longest: 999, sets: 1, per_set: 5_000, on_legs: 0, thresholds: 64 },
+    Case { what: "legs 3", nodes: 512, legs: 1_024, longest: 999, sets: 1, per_set: 5_000, on_legs: 0, thresholds: 64 },
+    Case { what: "thresholds 1", nodes: 512, legs: 1_024, longest: 999, sets: 1, per_set: 5_000, on_legs: 0, thresholds: 1 },
+    Case { what: "thresholds 2", nodes: 512, legs: 1_024, longest: 999, sets: 1, per_set: 5_000, on_legs: 0, thresholds: 8 },
+    Case { what: "32 sets", nodes: 512, legs: 1_024, longest: 999, sets: 32, per_set: 155, on_legs: 0, thresholds: 64 },
+    Case { what: "few legs 1", nodes: 512, legs: 1_024, longest: 9, sets: 1, per_set: 8_192, on_legs: 9, thresholds: 64 },
+    Case { what: "few legs 2", nodes: 512, legs: 1_024, longest: 9, sets: 1, per_set: 8_192, on_legs: 9, thresholds: 8 },
+    Case { what: "few legs 3", nodes: 512, legs: 1_024, longest: 999, sets: 1, per_set: 6_500, on_legs: 9, thresholds: 64 },
+    Case { what: "few legs 4", nodes: 512, legs: 1_024, longest: 9, sets: 32, per_set: 240, on_legs: 9, thresholds: 64 },
+    Case { what: "few legs 5", nodes: 512, legs: 1_024, longest: 9, sets: 32, per_set: 240, on_legs: 9, thresholds: 1 },
+    Case { what: "one leg 1", nodes: 512, legs: 1_024, longest: 9, sets: 1, per_set: 8_192, on_legs: 1, thresholds: 64 },
+    Case { what: "one leg 2", nodes: 512, legs: 1_024, longest: 9, sets: 32, per_set: 240, on_legs: 1, thresholds: 64 },
+];
+
+/// The folder of a case, filled. The same bytes every time.
+fn lay(folder: &Path, case: &Case) -> io::Result<PathBuf> {
+    let folder = folder.join(case.what.replace(' ', "_"));
+    fs::create_dir_all(&folder)?;
+    let mut rng = Rng::new(2026);
+    let network = random::ring_network(&mut rng, case.nodes, case.legs, case.longest);
+    let reports = random::reports(&mut rng, &network, case.sets, case.per_set, case.on_legs);
+    // Up to somewhat less than the widest distance.
+    let thresholds = random::even_thresholds(case.thresholds, (6 * case.longest).max(64));
+    let texts = [
+        random::network_text(&mut rng, &network),
+        random::reports_text(&mut rng, &reports),
+        random::thresholds_text(&mut rng, &thresholds),
+    ];
+    for (name, text) in FILES.iter().zip(texts) {
+        assert!(text.len() <= MAX_TEXT, "{}: {name} has {} bytes", case.what, text.len());
+        fs::write(folder.join(name), text)?;
+    }
+    Ok(folder)
+}
+
+/// As the C library has it on 64-bit Linux: two times, then the peak in KB and
+/// thirteen numbers more.
+#[repr(C)]
+#[derive(Default)]
+struct Usage {
+    user: [i64; 2],
+    system: [i64; 2],
+    peak: i64,
+    rest: [i64; 13],
+}
+
+extern "C" {
+    fn wait4(pid: i32, status: *mut i32, options: i32, usage: *mut Usage) -> i32;
+}
+
+/// Milliseconds on the processor and peak KB of one run.
+#[derive(Clone, Copy)]
+struct Run {
+    time: f64,
+    peak: i64,
+}
+
+fn run(program: &Path, folder: &Path, out: &Path) -> io::Result<Run> {
+    let mut command = Command::new(program);
+    command.current_dir(folder).stdout(File::create(out)?);
+    // SAFETY: it does nothing. With it the program is forked off: started the
+    // quick way, this program's own peak would count as the other's.
+    unsafe { command.pre_exec(|| Ok(())) };
+    let child = command.spawn()?;
+    let (mut status, mut usage) = (0, Usage::default());
+    // SAFETY: the C library fills in what is lent.
+    let ended = unsafe { wait4(child.id() as i32, &mut status, 0, &mut usage) };
+    assert!(ended == child.id() as i32 && status == 0, "{} ended with {status}", program.display());
+    let millis = |time: [i64; 2]| time[0] as f64 * 1e3 + time[1] as f64 / 1e3;
+    Ok(Run { time: millis(usage.user) + millis(usage.system), peak: usage.peak })
+}
+
+/// Both by turns, at least 5 and up to two seconds: the least time and peak of
+/// each.
+fn compare(programs: [&Path; 2], folder: &Path) -> io::Result<[Run; 2]> {
+    let outs = [folder.join("proved.out"), folder.join("plain.out")];
+    let mut least = [Run { time: f64::MAX, peak: i64::MAX }; 2];
+    let (mut turns, mut spent) = (0, 0.0);
+    while turns < 5 || (spent < 2_000.0 && turns < 100) {
+        for k in 0..2 {
+            let one = run(programs[k], folder, &outs[k])?;
+            least[k] = Run { time: least[k].time.min(one.time), peak: least[k].peak.min(one.peak) };
+            spent += one.time;
+        }
+        turns += 1;
+    }
+    let [told, expected] = [fs::read(&outs[0])?, fs::read(&outs[1])?];
+    assert!(told == expected, "{}: the programs print different bytes", folder.display());
+    assert!(!told.starts_with(b"refused"), "{}: refused", folder.display());
+    Ok(least)
+}
+
+fn main() -> io::Result<()> {
+    let mut words = std::env::args_os().skip(1);
+    let (Some(proved), Some(plain), Some(folder)) = (words.next(), words.next(), words.next()) else {
+        println!("program_bench PROVED PLAIN FOLDER [WORD]");
+        return Ok(());
+    };
+    let word = words.next().and_then(|word| word.into_string().ok()).unwrap_or_default();
+    let (proved, plain) = (fs::canonicalize(proved)?, fs::canonicalize(plain)?);
+    println!("| Folder | nodes, legs | sets of reports | on legs | thresholds | proved, ms | plain, ms | ratio | proved, peak KB | plain, peak KB |");
+    println!("|---|---|---|---|---|---|---|---|---|---|");
+    for case in CASES.iter().filter(|case| case.what.contains(&word)) {
+        let folder = lay(Path::new(&folder), case)?;
+        let [a, b] = compare([&proved, &plain], &folder)?;
+        let on_legs = if case.on_legs == 0 { case.legs } else { case.on_legs };
+        println!(
+            "| {} | {}, {} | {} of {} | {} | {} | {:.2} | {:.2} | {:.2} | {} | {} |",
+            case.what, case.nodes, case.legs, case.sets, case.per_set, on_legs, case.thresholds,
+            a.time, b.time, a.time / b.time, a.peak, b.peak,
+        );
+    }
+    Ok(())
+}
