@@ -13,7 +13,7 @@ use crate::tally::BUCKETS;
 use crate::tally::STEPS;
 
 // Spreads the thresholds over all steps: behind the greatest it is repeated.
-pub fn spread(thresholds: &[u32], steps: &mut [u32; STEPS])
+pub(crate) fn spread(thresholds: &[u32], steps: &mut [u32; STEPS])
     requires { ⌜ (1 ≤ length (now thresholds)) × (length (now steps) ≡ maxThresholds) ⌝ }
     ensures { λ _. ⌜ Spread (now (thresholds .entry)) (now (steps .exit)) ⌝ }
 {
@@ -40,7 +40,7 @@ fn write_row(buckets: &[u32; BUCKETS], row: &mut [u32])
 }
 
 // The row of a set whose runs are those from r up to before q.
-pub fn set_row(
+pub(crate) fn set_row(
     nodes: u32,
     firsts: &[u32],
     seconds: &[u32],

@@ -24,7 +24,7 @@ fn wide(x: u32) -> u64
     x as u64
 }
 
-pub fn earlier(a: usize, b: usize) -> usize
+pub(crate) fn earlier(a: usize, b: usize) -> usize
     ensures { λ r. ⌜ r ≡ min a b ⌝ }
 {
     if b < a { b } else { a }
@@ -39,7 +39,7 @@ fn way_between(nodes: u32, table: &[u32], u: u32, v: u32) -> u64
 }
 
 // Two edges by their indices.
-pub fn edge_pair(
+pub(crate) fn edge_pair(
     nodes: u32,
     firsts: &[u32],
     seconds: &[u32],
@@ -67,7 +67,7 @@ pub fn edge_pair(
 }
 
 // The edges are two, and none of the four ways is within the reach.
-pub fn is_apart(g: EdgePair, reach: u64) -> bool
+pub(crate) fn is_apart(g: EdgePair, reach: u64) -> bool
     ensures { λ r. ⌜ (r ≡ true → Apart g reach) ⌝ }
 {
     if g.same {
@@ -77,7 +77,7 @@ pub fn is_apart(g: EdgePair, reach: u64) -> bool
 }
 
 // Tallies every event of a run with the earlier ones of another run, or of the same.
-pub fn block(
+pub(crate) fn block(
     g: EdgePair,
     offsets: &[u32],
     from: usize,

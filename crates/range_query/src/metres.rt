@@ -18,7 +18,7 @@ pub struct EdgePair {
     pub same: bool,
 }
 
-pub fn lesser(a: u64, b: u64) -> u64
+pub(crate) fn lesser(a: u64, b: u64) -> u64
     ensures { λ r. ⌜ r ≡ min a b ⌝ }
 {
     if b < a { b } else { a }
@@ -31,14 +31,14 @@ fn apart(a: u64, b: u64) -> u64
 }
 
 // The metres of a table entry, which is one more, and 0 for none.
-pub fn way(code: u32) -> u64
+pub(crate) fn way(code: u32) -> u64
     ensures { λ r. ⌜ r ≡ way code ⌝ }
 {
     if code == 0 { FAR } else { code as u64 - 1 }
 }
 
 // From an offset to the first end of the other edge.
-pub fn to_first(g: EdgePair, x: u64) -> u64
+pub(crate) fn to_first(g: EdgePair, x: u64) -> u64
     requires { ⌜ Ways g × (x ≤ g .size) ⌝ }
     ensures { λ r. ⌜ r ≡ toFirst g x ⌝ }
 {
@@ -46,7 +46,7 @@ pub fn to_first(g: EdgePair, x: u64) -> u64
 }
 
 // From an offset to the second end of the other edge.
-pub fn to_second(g: EdgePair, x: u64) -> u64
+pub(crate) fn to_second(g: EdgePair, x: u64) -> u64
     requires { ⌜ Ways g × (x ≤ g .size) ⌝ }
     ensures { λ r. ⌜ r ≡ toSecond g x ⌝ }
 {
@@ -54,14 +54,14 @@ pub fn to_second(g: EdgePair, x: u64) -> u64
 }
 
 // Where an offset stands on the other edge.
-pub fn place_on(g: EdgePair, x: u64) -> u64
+pub(crate) fn place_on(g: EdgePair, x: u64) -> u64
     ensures { λ r. ⌜ r ≡ placeOn g x ⌝ }
 {
     if g.same { x } else { FAR }
 }
 
 // To an offset of the other edge, by its first end, by its second end or along it.
-pub fn meet(p: u64, q: u64, other: u64, place: u64, y: u64) -> u64
+pub(crate) fn meet(p: u64, q: u64, other: u64, place: u64, y: u64) -> u64
     requires { ⌜ (p ≤ 2199023255552) × (q ≤ 2199023255552) × (y ≤ other) × (other ≤ 4294967296) ⌝ }
     ensures { λ r. ⌜ r ≡ meet p q other place y ⌝ }
 {

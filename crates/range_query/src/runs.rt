@@ -15,7 +15,7 @@ use crate::tally::LAST_STEP;
 use crate::tally::STEPS;
 
 // An entry of a list as a place.
-pub fn place(list: &[u32], k: usize) -> usize
+pub(crate) fn place(list: &[u32], k: usize) -> usize
     requires { ⌜ k < length (now list) ⌝ }
     ensures { λ r. ⌜ r ≡ getD (now (list .entry)) k 0 ⌝ }
 {
@@ -92,7 +92,7 @@ fn run_pairs(
 }
 
 // Every pair of a set whose runs are those from r up to before q.
-pub fn set_pairs(
+pub(crate) fn set_pairs(
     nodes: u32,
     firsts: &[u32],
     seconds: &[u32],

@@ -49,7 +49,7 @@ fn bucket(steps: &[u32; STEPS], d: u64) -> usize
 }
 
 // Tallies one event with every offset of a part of a run on the other edge.
-pub fn row(
+pub(crate) fn row(
     ys: &[u32],
     p: u64,
     q: u64,

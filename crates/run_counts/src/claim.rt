@@ -64,7 +64,7 @@ fn asked(name: &[u8], set: u32, threshold: u32, edge1: u32, edge2: u32) {
     );
 }
 
-pub fn accepted() {
+pub(crate) fn accepted() {
     asked(b"set 0 at 5, edges 1 and 2", 0, 5, 1, 2);
     asked(b"set 0 at 4, edge 1 and itself", 0, 4, 1, 1);
     asked(b"set 1 at 3, edges 4 and 1", 1, 3, 4, 1);
@@ -73,7 +73,7 @@ pub fn accepted() {
 }
 
 // 12 and 13 for what is asked about.
-pub fn refused() {
+pub(crate) fn refused() {
     asked(b"set 32", 32, 5, 0, 5);
     asked(b"edges 0 and 1", 0, 5, 0, 1);
     asked(b"edges 1 and 5", 0, 5, 1, 5);
@@ -104,7 +104,7 @@ fn fitted(
     );
 }
 
-pub fn short_counts() {
+pub(crate) fn short_counts() {
     let mut by_sharing = [99; 11];
     let mut positions = [99; 12];
     let mut moves = [99; 6];
@@ -117,7 +117,7 @@ pub fn short_counts() {
     );
 }
 
-pub fn short_positions() {
+pub(crate) fn short_positions() {
     let mut by_sharing = [99; 12];
     let mut positions = [99; 11];
     let mut moves = [99; 6];
@@ -130,7 +130,7 @@ pub fn short_positions() {
     );
 }
 
-pub fn short_moves() {
+pub(crate) fn short_moves() {
     let mut by_sharing = [99; 12];
     let mut positions = [99; 12];
     let mut moves = [99; 5];
@@ -143,7 +143,7 @@ pub fn short_moves() {
     );
 }
 
-pub fn short_sets() {
+pub(crate) fn short_sets() {
     let mut by_sharing = [99; 12];
     let mut positions = [99; 12];
     let mut moves = [99; 6];

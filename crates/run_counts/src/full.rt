@@ -1,7 +1,7 @@
 // Over the network of document 01's full run.
 use crate::methods::over_four;
 
-pub fn rows() {
+pub(crate) fn rows() {
     over_four(
         b"P1 to P4: sets 0 to 2, each at 2, 3, 5 and 7",
         &[0, 0, 0, 0, 1, 1, 1, 1, 2, 2, 2, 2],
@@ -12,7 +12,7 @@ pub fn rows() {
 }
 
 // Sets of no event and of one.
-pub fn few() {
+pub(crate) fn few() {
     over_four(b"no events", &[], &[], &[], &[0, 4294967295]);
     over_four(b"one event", &[0], &[4], &[6], &[0, 4294967295]);
     over_four(

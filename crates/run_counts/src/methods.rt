@@ -56,7 +56,7 @@ fn three(
 }
 
 // With room for 13 counts.
-pub fn counted(
+pub(crate) fn counted(
     name: &[u8],
     nodes: u32,
     firsts: &[u32],
@@ -87,7 +87,13 @@ pub fn counted(
 }
 
 // Over the network of document 01's full run.
-pub fn over_four(name: &[u8], sets: &[u32], edges: &[u32], offsets: &[u32], thresholds: &[u32]) {
+pub(crate) fn over_four(
+    name: &[u8],
+    sets: &[u32],
+    edges: &[u32],
+    offsets: &[u32],
+    thresholds: &[u32],
+) {
     counted(
         name,
         4,
@@ -102,7 +108,7 @@ pub fn over_four(name: &[u8], sets: &[u32], edges: &[u32], offsets: &[u32], thre
 }
 
 // The same with answer lists lent.
-pub fn over_four_into(
+pub(crate) fn over_four_into(
     name: &[u8],
     sets: &[u32],
     edges: &[u32],

@@ -19,14 +19,14 @@ fn over(name: &[u8], nodes: u32, firsts: &[u32], seconds: &[u32], lengths: &[u32
 }
 
 // 2.
-pub fn lists() {
+pub(crate) fn lists() {
     over(b"a second node missing", 3, &[1, 2], &[2], &[5, 4]);
     over(b"a length missing", 3, &[1, 2], &[2, 3], &[5]);
     over_four(b"a set missing", &[0], &[1, 1], &[1, 4], &[2, 3]);
     over_four(b"an offset missing", &[0, 0], &[1, 1], &[1], &[2, 3]);
 }
 
-pub fn short() {
+pub(crate) fn short() {
     let mut by_range = [99; 3];
     let mut by_augmentation = [99; 3];
     let mut by_sharing = [99; 3];
@@ -43,14 +43,14 @@ pub fn short() {
 }
 
 // 6.
-pub fn sizes() {
+pub(crate) fn sizes() {
     over(b"no node", 0, &[1, 2], &[2, 3], &[5, 4]);
     over(b"513 nodes", 513, &[1, 2], &[2, 3], &[5, 4]);
     over(b"no edge", 3, &[], &[], &[]);
 }
 
 // 7 to 9.
-pub fn edges() {
+pub(crate) fn edges() {
     over(b"node 4 of 3", 3, &[1, 2], &[2, 4], &[5, 4]);
     over(b"node 0", 3, &[0, 2], &[2, 4], &[5, 4]);
     over(b"an edge to its own node", 3, &[1, 2], &[2, 2], &[5, 0]);

@@ -2,7 +2,7 @@
 use crate::methods::counted;
 
 // No walk joins the parts, however great the threshold.
-pub fn parts() {
+pub(crate) fn parts() {
     counted(
         b"two parts, at 3, 4, 9 and 4294967295",
         4,
@@ -17,7 +17,7 @@ pub fn parts() {
 }
 
 // P10: by the short edge 4 metres, along the long one 10.
-pub fn two_ways() {
+pub(crate) fn two_ways() {
     counted(
         b"P10, at 3, 4, 9 and 10",
         2,
@@ -47,14 +47,14 @@ fn beside(name: &[u8], other: u32) {
 }
 
 // The ways round differ by 0 and by 1 metre.
-pub fn round() {
+pub(crate) fn round() {
     beside(b"12 beside 12, at 0, 10, 11, 12 and 13", 12);
     beside(b"12 beside 11, at 0, 10, 11, 12 and 13", 11);
     beside(b"12 beside 13, at 0, 10, 11, 12 and 13", 13);
 }
 
 // Events at one place and at both ends of an edge.
-pub fn crowded() {
+pub(crate) fn crowded() {
     counted(
         b"a crowded edge, at 0, 4, 5, 8, 9 and 10",
         2,
@@ -69,7 +69,7 @@ pub fn crowded() {
 }
 
 // The same with a way round of 3.
-pub fn crowded_round() {
+pub(crate) fn crowded_round() {
     counted(
         b"a crowded edge with a way round, at 0, 2, 3, 4, 5 and 10",
         2,
@@ -83,7 +83,7 @@ pub fn crowded_round() {
     );
 }
 
-pub fn long_edges() {
+pub(crate) fn long_edges() {
     counted(
         b"edges of 1000000, at 1, 2, 1999999 and 2000000",
         3,

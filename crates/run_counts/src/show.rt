@@ -2,7 +2,7 @@
 use libc::STDOUT_FILENO;
 use model::Check;
 
-pub fn word(text: &[u8]) {
+pub(crate) fn word(text: &[u8]) {
     io::write_all(STDOUT_FILENO, text);
 }
 
@@ -23,7 +23,7 @@ fn entries(numbers: &[u32]) {
     }
 }
 
-pub fn heading(text: &[u8]) {
+pub(crate) fn heading(text: &[u8]) {
     word(text);
     word(b"\n");
 }
@@ -39,7 +39,7 @@ fn verdict(check: Check) {
     }
 }
 
-pub fn list(name: &[u8], numbers: &[u32]) {
+pub(crate) fn list(name: &[u8], numbers: &[u32]) {
     word(name);
     word(b":");
     entries(numbers);
@@ -47,7 +47,7 @@ pub fn list(name: &[u8], numbers: &[u32]) {
 }
 
 // A verdict and the list that goes with it.
-pub fn told(name: &[u8], check: Check, numbers: &[u32]) {
+pub(crate) fn told(name: &[u8], check: Check, numbers: &[u32]) {
     word(name);
     verdict(check);
     list(b"", numbers);

@@ -25,7 +25,7 @@ fn stored(
     list(b"no farther from the second end", near_second);
 }
 
-pub fn full_run() {
+pub(crate) fn full_run() {
     let mut edges = [1, 2, 4, 1];
     let mut offsets = [1, 3, 2, 4];
     layout::lay_out(&mut edges, &mut offsets);
@@ -42,7 +42,7 @@ pub fn full_run() {
     );
 }
 
-pub fn crowded() {
+pub(crate) fn crowded() {
     let mut near_first = [99; 9];
     let mut near_second = [99; 9];
     stored(
@@ -54,7 +54,7 @@ pub fn crowded() {
     );
 }
 
-pub fn refused() {
+pub(crate) fn refused() {
     let mut near_first = [99; 2];
     let mut near_second = [99; 2];
     stored(

@@ -51,7 +51,7 @@ fn nine(name: &[u8], edge1: u32, edge2: u32, threshold: u32, bound: u32) {
     );
 }
 
-pub fn accepted() {
+pub(crate) fn accepted() {
     nine(b"edges 1 and 2 at 5", 1, 2, 5, 7);
     nine(b"edges 2 and 1 at 5", 2, 1, 5, 7);
     nine(b"edge 1 and itself at 3", 1, 1, 3, 7);
@@ -60,13 +60,13 @@ pub fn accepted() {
 }
 
 // Of the four routes between edges 1 and 4 one is within 3, and two within 4.
-pub fn bounded() {
+pub(crate) fn bounded() {
     nine(b"edges 1 and 4 at 7, bound 3", 1, 4, 7, 3);
     nine(b"edges 1 and 4 at 7, bound 4", 1, 4, 7, 4);
 }
 
 // 17 and 13.
-pub fn refused() {
+pub(crate) fn refused() {
     let mut positions = [99; 12];
     let mut moves = [99; 6];
     swept(
@@ -94,7 +94,7 @@ pub fn refused() {
 }
 
 // 2.
-pub fn short() {
+pub(crate) fn short() {
     let mut positions = [99; 11];
     let mut moves = [99; 6];
     swept(

@@ -9,7 +9,7 @@ use distance::node_distance;
 use perimeter::perimeter_count;
 
 // P5 to P9: 01's network, centre on edge 1 at offset 1.
-pub fn perimeters() {
+pub(crate) fn perimeters() {
     around(b"P5", 0);
     around(b"P6", 4);
     around(b"P7", 5);
@@ -26,7 +26,7 @@ fn around(name: &[u8], radius: u32) {
 }
 
 // P10: edges of 12 and 2 between the same nodes.
-pub fn two_ways() {
+pub(crate) fn two_ways() {
     length(
         b"P10",
         location_distance(2, &[1, 1], &[2, 2], &[12, 2], 1, 1, 1, 11),
@@ -46,7 +46,7 @@ pub fn two_ways() {
 }
 
 // Two parts that do not hang together, and node 5 with no edge.
-pub fn parts() {
+pub(crate) fn parts() {
     length(b"joined", node_distance(5, &[1, 3], &[2, 4], &[7, 9], 1, 2));
     length(
         b"unjoined",
@@ -68,7 +68,7 @@ pub fn parts() {
 }
 
 // The bound itself is within, one less is beyond; places at both ends of an edge.
-pub fn places() {
+pub(crate) fn places() {
     bounded(
         b"at the bound",
         bounded_node_distance(3, &[1, 2], &[2, 3], &[5, 4], 9, 1, 3),
@@ -96,7 +96,7 @@ pub fn places() {
 }
 
 // The greatest length.
-pub fn long_edges() {
+pub(crate) fn long_edges() {
     length(
         b"two million",
         node_distance(3, &[1, 2], &[2, 3], &[1000000, 1000000], 1, 3),
@@ -116,7 +116,7 @@ pub fn long_edges() {
 }
 
 // Rows of bounded distances: 0 is beyond, else one more than the metres; surplus is kept.
-pub fn rows() {
+pub(crate) fn rows() {
     let mut row = [7, 7, 7, 7, 7];
     distance::distances_from(
         4,
@@ -152,7 +152,7 @@ pub fn rows() {
 }
 
 // 7, 13 and 14 at place 0, and 2 for a list of edges cut short.
-pub fn refused() {
+pub(crate) fn refused() {
     length(b"node 0", node_distance(3, &[1, 2], &[2, 3], &[5, 4], 0, 3));
     length(
         b"edge 3",

@@ -4,11 +4,11 @@ use distance::Length;
 use libc::STDOUT_FILENO;
 use perimeter::Counted;
 
-pub fn word(text: &[u8]) {
+pub(crate) fn word(text: &[u8]) {
     io::write_all(STDOUT_FILENO, text);
 }
 
-pub fn number(n: u64) {
+pub(crate) fn number(n: u64) {
     word(b" ");
     io::print_decimal(STDOUT_FILENO, n);
 }
@@ -23,7 +23,7 @@ fn refusal(n: u32, place: usize) {
     number(place as u64);
 }
 
-pub fn counted(name: &[u8], answer: Counted) {
+pub(crate) fn counted(name: &[u8], answer: Counted) {
     word(name);
     match answer {
         Counted::Count(n) => number(n as u64),
@@ -32,7 +32,7 @@ pub fn counted(name: &[u8], answer: Counted) {
     word(b"\n");
 }
 
-pub fn length(name: &[u8], answer: Length) {
+pub(crate) fn length(name: &[u8], answer: Length) {
     word(name);
     match answer {
         Length::Metres(n) => number(n as u64),
@@ -42,7 +42,7 @@ pub fn length(name: &[u8], answer: Length) {
     word(b"\n");
 }
 
-pub fn bounded(name: &[u8], answer: BoundedLength) {
+pub(crate) fn bounded(name: &[u8], answer: BoundedLength) {
     word(name);
     match answer {
         BoundedLength::Metres(n) => number(n as u64),
@@ -52,7 +52,7 @@ pub fn bounded(name: &[u8], answer: BoundedLength) {
     word(b"\n");
 }
 
-pub fn list(name: &[u8], numbers: &[u32]) {
+pub(crate) fn list(name: &[u8], numbers: &[u32]) {
     word(name);
     let mut k = 0;
     while k < numbers.len() {

@@ -3,7 +3,7 @@ use crate::show::list;
 use crate::show::verdict;
 
 // 12 to 14 and 16, over a network of two edges.
-pub fn sets() {
+pub(crate) fn sets() {
     verdict(
         b"sets",
         validate::check_sets(3, &[1, 2], &[2, 3], &[5, 4], &[0, 1], &[1, 2], &[5, 4]),
@@ -35,17 +35,17 @@ pub fn sets() {
 }
 
 // 15: the 8,193rd event; 13 comes before it wherever it stands.
-pub fn crowded() {
+pub(crate) fn crowded() {
     let many = [1; 8193];
     crowd(b"8193 events", &many);
 }
 
-pub fn full() {
+pub(crate) fn full() {
     let many = [1; 8192];
     crowd(b"8192 events", &many);
 }
 
-pub fn crowded_behind() {
+pub(crate) fn crowded_behind() {
     let mut last = [1; 8193];
     last[8192] = 3;
     crowd(b"bad edge behind", &last);
@@ -59,7 +59,7 @@ fn crowd(name: &[u8], many: &[u32]) {
 }
 
 // 17.
-pub fn in_order() {
+pub(crate) fn in_order() {
     verdict(
         b"laid out",
         validate::check_laid_out(3, &[1, 2], &[2, 3], &[5, 4], &[1, 1, 2], &[3, 3, 0], 2),
@@ -79,7 +79,7 @@ pub fn in_order() {
 }
 
 // 18 and 19.
-pub fn thresholds() {
+pub(crate) fn thresholds() {
     verdict(
         b"thresholds",
         validate::check_thresholds(&[0, 1, 4294967295]),
@@ -94,7 +94,7 @@ pub fn thresholds() {
 }
 
 // Laying out keeps repeats.
-pub fn laid_out() {
+pub(crate) fn laid_out() {
     let mut edges = [2, 1, 2, 1, 1];
     let mut offsets = [3, 4, 0, 4, 1];
     verdict(b"lay out", layout::lay_out(&mut edges, &mut offsets));
@@ -109,7 +109,7 @@ pub fn laid_out() {
 }
 
 // The events on an edge, and what is told beside them.
-pub fn stretches() {
+pub(crate) fn stretches() {
     let edges = [1, 1, 1, 2, 2];
     let offsets = [1, 4, 4, 0, 3];
     let mut number = 9;

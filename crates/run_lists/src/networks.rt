@@ -2,7 +2,7 @@
 use crate::show::verdict;
 
 // 6, and 2.
-pub fn sizes() {
+pub(crate) fn sizes() {
     verdict(
         b"network",
         validate::check_network(3, &[1, 2], &[2, 3], &[5, 4]),
@@ -26,13 +26,13 @@ pub fn sizes() {
 }
 
 // 6 for the edges: 1,025 and 1,024 of them.
-pub fn many_edges() {
+pub(crate) fn many_edges() {
     let ones = [1; 1025];
     let twos = [2; 1025];
     edges_of(b"1025 edges", &ones, &twos);
 }
 
-pub fn most_edges() {
+pub(crate) fn most_edges() {
     let ones = [1; 1024];
     let twos = [2; 1024];
     edges_of(b"1024 edges", &ones, &twos);
@@ -43,7 +43,7 @@ fn edges_of(name: &[u8], ones: &[u32], twos: &[u32]) {
 }
 
 // 7 to 9.
-pub fn edges() {
+pub(crate) fn edges() {
     verdict(
         b"node 4 of 3",
         validate::check_network(3, &[1, 2], &[2, 4], &[5, 4]),
@@ -71,7 +71,7 @@ pub fn edges() {
 }
 
 // 7, 13 and 14 at place 0.
-pub fn lone_numbers() {
+pub(crate) fn lone_numbers() {
     verdict(
         b"nodes",
         validate::check_nodes(3, &[1, 2], &[2, 3], &[5, 4], 1, 3),

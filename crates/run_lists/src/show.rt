@@ -2,7 +2,7 @@
 use libc::STDOUT_FILENO;
 use model::Check;
 
-pub fn number(n: u64) {
+pub(crate) fn number(n: u64) {
     io::print_decimal(STDOUT_FILENO, n);
     io::write_all(STDOUT_FILENO, b" ");
 }
@@ -11,15 +11,15 @@ fn entry(n: u32) {
     number(n as u64);
 }
 
-pub fn line_end() {
+pub(crate) fn line_end() {
     io::write_all(STDOUT_FILENO, b"\n");
 }
 
-pub fn word(text: &[u8]) {
+pub(crate) fn word(text: &[u8]) {
     io::write_all(STDOUT_FILENO, text);
 }
 
-pub fn verdict(name: &[u8], check: Check) {
+pub(crate) fn verdict(name: &[u8], check: Check) {
     word(name);
     match check {
         Check::Accepted => word(b" accepted"),
@@ -32,7 +32,7 @@ pub fn verdict(name: &[u8], check: Check) {
     line_end();
 }
 
-pub fn list(name: &[u8], numbers: &[u32]) {
+pub(crate) fn list(name: &[u8], numbers: &[u32]) {
     word(name);
     word(b" ");
     let mut k = 0;

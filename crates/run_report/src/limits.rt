@@ -4,7 +4,7 @@ use crate::show::printed;
 use crate::show::report;
 use crate::show::word;
 
-pub fn lengths() {
+pub(crate) fn lengths() {
     report(
         b"length 1000000",
         b"p sp 2 2\na 1 2 1000000\na 2 1 1000000\n",
@@ -19,7 +19,7 @@ pub fn lengths() {
     );
 }
 
-pub fn thresholds() {
+pub(crate) fn thresholds() {
     over_four(
         b"64 thresholds",
         b"set,leg,offset\r\n0,1,1\r\n0,2,3\r\n0,4,2\r\n0,1,4\r\n1,1,0\r\n1,3,3\r\n1,4,6\r\n1,2,0\r\n2,4,3\r\n2,4,3\r\n2,4,3\r\n2,4,3\r\n",
@@ -33,7 +33,7 @@ pub fn thresholds() {
 }
 
 // A list of bytes that is one byte too short keeps what it held.
-pub fn short_list() {
+pub(crate) fn short_list() {
     word(b"short list\n");
     let mut out = [b'.'; 23];
     let answer = report::report(b"", b"", b"", &mut out);
@@ -42,7 +42,7 @@ pub fn short_list() {
     word(b"\n");
 }
 
-pub fn full_list() {
+pub(crate) fn full_list() {
     word(b"full list\n");
     let mut out = [b'.'; 24];
     let answer = report::report(b"", b"", b"", &mut out);

@@ -2,13 +2,13 @@
 use crate::show::over_four;
 use crate::show::report;
 
-pub fn empty() {
+pub(crate) fn empty() {
     report(b"three empty texts", b"", b"", b"");
     over_four(b"empty reports", b"", b"threshold\r\n2\r\n3\r\n5\r\n7\r\n");
     over_four(b"empty thresholds", b"set,leg,offset\r\n", b"");
 }
 
-pub fn files() {
+pub(crate) fn files() {
     report(
         b"a leg to its own node",
         b"p sp 2 2\na 1 1 5\na 1 1 5\n",
@@ -37,7 +37,7 @@ pub fn files() {
 }
 
 // The first refused file decides.
-pub fn order() {
+pub(crate) fn order() {
     report(
         b"network and reports",
         b"q\n",

@@ -2,12 +2,12 @@
 use libc::STDOUT_FILENO;
 use printing::Printed;
 
-pub fn word(text: &[u8]) {
+pub(crate) fn word(text: &[u8]) {
     io::write_all(STDOUT_FILENO, text);
 }
 
 // The bytes, or the refusal of a list that is too short.
-pub fn printed(answer: Printed, out: &[u8]) {
+pub(crate) fn printed(answer: Printed, out: &[u8]) {
     match answer {
         Printed::Bytes(n) => {
             if n <= out.len() {
@@ -24,7 +24,7 @@ pub fn printed(answer: Printed, out: &[u8]) {
     }
 }
 
-pub fn report(name: &[u8], network: &[u8], reports: &[u8], thresholds: &[u8]) {
+pub(crate) fn report(name: &[u8], network: &[u8], reports: &[u8], thresholds: &[u8]) {
     word(name);
     word(b"\n");
     let mut out = [0u8; report::REPORT_ROOM];
@@ -33,7 +33,7 @@ pub fn report(name: &[u8], network: &[u8], reports: &[u8], thresholds: &[u8]) {
 }
 
 // Over the network of document 01's full run.
-pub fn over_four(name: &[u8], reports: &[u8], thresholds: &[u8]) {
+pub(crate) fn over_four(name: &[u8], reports: &[u8], thresholds: &[u8]) {
     report(
         name,
         b"p sp 4 8\na 1 2 5\na 2 1 5\na 2 3 4\na 3 2 4\na 3 1 3\na 1 3 3\na 3 4 6\na 4 3 6\n",

@@ -2,7 +2,7 @@
 use crate::show::over_four;
 use crate::show::report;
 
-pub fn full() {
+pub(crate) fn full() {
     over_four(
         b"full run",
         b"set,leg,offset\r\n0,1,1\r\n0,2,3\r\n0,4,2\r\n0,1,4\r\n1,1,0\r\n1,3,3\r\n1,4,6\r\n1,2,0\r\n2,4,3\r\n2,4,3\r\n2,4,3\r\n2,4,3\r\n",
@@ -11,7 +11,7 @@ pub fn full() {
 }
 
 // Without comparison sets there is no least and no greatest.
-pub fn observed_alone() {
+pub(crate) fn observed_alone() {
     over_four(
         b"set 0 alone",
         b"set,leg,offset\r\n0,1,1\r\n0,1,1\r\n0,4,6\r\n",
@@ -26,7 +26,7 @@ pub fn observed_alone() {
 }
 
 // Two parts with no walk between them: the greatest threshold joins only what lies in one part.
-pub fn greatest_threshold() {
+pub(crate) fn greatest_threshold() {
     report(
         b"two parts",
         b"c two parts\np sp 4 4\na 1 2 7\na 2 1 7\na 3 4 9\na 4 3 9\n",

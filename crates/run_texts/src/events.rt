@@ -24,12 +24,12 @@ fn read(name: &[u8], text: &[u8]) {
     list(b"  offsets", &offsets);
 }
 
-pub fn accepted() {
+pub(crate) fn accepted() {
     read(b"two sets", b"set,leg,offset\r\n0,1,5\r\n1,2,0\r\n");
     read(b"header alone", b"set,leg,offset");
 }
 
-pub fn refused_lines() {
+pub(crate) fn refused_lines() {
     read(b"empty", b"");
     read(b"other header", b"set,leg\r\n0,1,5\r\n");
     read(b"two fields", b"set,leg,offset\r\n0,1,5\r\n0,1\r\n");
@@ -37,7 +37,7 @@ pub fn refused_lines() {
     read(b"sign", b"set,leg,offset\r\n0,1,+5\r\n");
 }
 
-pub fn refused_rows() {
+pub(crate) fn refused_rows() {
     read(b"set 32", b"set,leg,offset\r\n32,3,9\r\n");
     read(b"leg 3", b"set,leg,offset\r\n0,1,5\r\n0,3,9\r\n");
     read(b"offset 6", b"set,leg,offset\r\n0,1,6\r\n");
@@ -49,7 +49,7 @@ pub fn refused_rows() {
 }
 
 // Faults of the lent lists come before faults of lines.
-pub fn refused_lists() {
+pub(crate) fn refused_lists() {
     let mut sets = [9, 9, 9];
     let mut edges = [9, 9, 9];
     let mut offsets = [9, 9, 9];

@@ -15,14 +15,14 @@ fn read(name: &[u8], text: &[u8]) {
     list(b"  lengths", &lengths);
 }
 
-pub fn accepted() {
+pub(crate) fn accepted() {
     read(
         b"two edges",
         b"c\nc a remark\np sp 3 4\na 1 2 5\na 2 1 5\nc\na 2 3 4\nc \na 3 2 4\nc end",
     );
 }
 
-pub fn refused_lines() {
+pub(crate) fn refused_lines() {
     read(b"empty", b"");
     read(b"line feed", b"\n");
     read(b"no form", b"cx\np sp 3 4\n");
@@ -33,7 +33,7 @@ pub fn refused_lines() {
     read(b"two spaces", b"p sp 3  4\n");
 }
 
-pub fn refused_arcs() {
+pub(crate) fn refused_arcs() {
     read(b"node 4", b"p sp 3 4\na 1 4 0\n");
     read(b"itself", b"p sp 3 4\na 2 2 0\n");
     read(b"length 0", b"p sp 3 4\na 1 2 0\n");
@@ -41,7 +41,7 @@ pub fn refused_arcs() {
     read(b"other weight", b"p sp 3 4\na 1 2 5\nc\na 2 1 6\n");
 }
 
-pub fn refused_ends() {
+pub(crate) fn refused_ends() {
     read(b"no p", b"c\n");
     read(b"surplus", b"p sp 3 2\na 1 2 5\na 2 1 5\na 2 3 4\n");
     read(b"missing", b"p sp 3 4\na 1 2 5\na 2 1 5\nc\n");

@@ -3,7 +3,7 @@ use libc::STDOUT_FILENO;
 use readers::ReadList;
 use readers::ReadNetwork;
 
-pub fn word(text: &[u8]) {
+pub(crate) fn word(text: &[u8]) {
     io::write_all(STDOUT_FILENO, text);
 }
 
@@ -22,7 +22,7 @@ fn refusal(n: u32, place: usize) {
     number(place as u64);
 }
 
-pub fn read_list(name: &[u8], answer: ReadList) {
+pub(crate) fn read_list(name: &[u8], answer: ReadList) {
     word(name);
     match answer {
         ReadList::Read(n) => number(n as u64),
@@ -31,7 +31,7 @@ pub fn read_list(name: &[u8], answer: ReadList) {
     word(b"\n");
 }
 
-pub fn read_network(name: &[u8], answer: ReadNetwork) {
+pub(crate) fn read_network(name: &[u8], answer: ReadNetwork) {
     word(name);
     match answer {
         ReadNetwork::Read(nodes, edges) => {
@@ -43,7 +43,7 @@ pub fn read_network(name: &[u8], answer: ReadNetwork) {
     word(b"\n");
 }
 
-pub fn list(name: &[u8], numbers: &[u32]) {
+pub(crate) fn list(name: &[u8], numbers: &[u32]) {
     word(name);
     let mut k = 0;
     while k < numbers.len() {

@@ -9,12 +9,12 @@ fn read(name: &[u8], text: &[u8]) {
     list(b"  list", &thresholds);
 }
 
-pub fn accepted() {
+pub(crate) fn accepted() {
     read(b"two", b"threshold\r\n2\r\n3\r\n");
     read(b"last line lacks its end", b"threshold\r\n0\r\n4294967295");
 }
 
-pub fn refused() {
+pub(crate) fn refused() {
     read(b"empty", b"");
     read(b"one line end", b"\r\n");
     read(b"no header", b"2\r\n3\r\n");
