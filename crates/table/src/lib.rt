@@ -2,7 +2,7 @@
 mod answers;
 mod checks;
 mod columns;
-mod fastest;
+mod crowded;
 mod sets;
 mod spans;
 

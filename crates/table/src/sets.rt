@@ -5,8 +5,7 @@ ghost use Rattle.table.specs.Table.{TableAnswered};
 use crate::answers::Table;
 use crate::checks::check_table;
 use crate::columns::fill_columns;
-use crate::fastest::Method;
-use crate::fastest::fastest;
+use crate::crowded::is_crowded;
 use model::Check;
 use model::EventSet;
 use model::Thresholds;
@@ -14,7 +13,7 @@ use model::Thresholds;
 // A count of every set at every threshold.
 const COUNTS: usize = (EventSet::MAX_SET as usize + 1) * Thresholds::MAX_THRESHOLDS;
 
-// The counts of every set at every threshold, by the method that should be fastest.
+// The counts of every set at every threshold, by the method that should be faster.
 fn pair_counts(
     nodes: u32,
     firsts: &[u32],
@@ -28,8 +27,8 @@ fn pair_counts(
 ) -> Check
     ensures { λ r. ⌜ CountsAnswered (network nodes (now (firsts .entry)) (now (seconds .entry)) (now (lengths .entry))) (now (sets .entry)) (now (edges .entry)) (now (offsets .entry)) (now (thresholds .entry)) (now (answers .entry)) r (now (answers .exit)) ⌝ }
 {
-    match fastest(sets, edges, thresholds) {
-        Method::RangeQuery => range_query::counts(
+    if is_crowded(sets, edges, thresholds) {
+        return count_augmentation::counts(
             nodes,
             firsts,
             seconds,
@@ -39,30 +38,19 @@ fn pair_counts(
             offsets,
             thresholds,
             answers,
-        ),
-        Method::CountAugmentation => count_augmentation::counts(
-            nodes,
-            firsts,
-            seconds,
-            lengths,
-            sets,
-            edges,
-            offsets,
-            thresholds,
-            answers,
-        ),
-        Method::NeighborSharing => neighbor_sharing::counts(
-            nodes,
-            firsts,
-            seconds,
-            lengths,
-            sets,
-            edges,
-            offsets,
-            thresholds,
-            answers,
-        ),
+        );
     }
+    range_query::counts(
+        nodes,
+        firsts,
+        seconds,
+        lengths,
+        sets,
+        edges,
+        offsets,
+        thresholds,
+        answers,
+    )
 }
 
 // The same with room for the counts lent. What the checks accept, the counts are given for.
