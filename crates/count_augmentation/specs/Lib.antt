@@ -5,4 +5,3 @@ pub mod Reach
 pub mod Pairs
 pub mod Runs
 pub mod Events
-pub mod Totals

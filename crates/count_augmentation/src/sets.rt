@@ -6,7 +6,7 @@ ghost use Rattle.model.specs.Limits.{maxEvents};
 ghost use Rattle.model.specs.Network.{network};
 ghost use Rattle.prepare.specs.Counts.{CountsAnswered};
 ghost use Rattle.prepare.specs.RunPairs.{otherRow, RowReady};
-ghost use Rattle.count_augmentation.specs.Totals.{Steps, RowFits, RowSummed};
+ghost use Rattle.prepare.specs.Totals.{Steps, RowFits, RowSummed};
 use crate::runs::bound;
 use crate::runs::store_runs;
 use crate::totals::add_all;

@@ -6,7 +6,7 @@ ghost use Rattle.model.specs.Network.{network};
 ghost use Rattle.prepare.specs.RunPairs.{runPairs};
 ghost use Rattle.count_augmentation.specs.Pairs.{reachedPairs, TwoRuns};
 ghost use Rattle.count_augmentation.specs.Runs.{RunStored, RunsStored};
-ghost use Rattle.count_augmentation.specs.Totals.{Steps, ReadyAt, UpTo, AddedAt, EarlierAdded, Totalled};
+ghost use Rattle.prepare.specs.Totals.{Steps, ReadyAt, UpTo, AddedAt, EarlierAdded, Totalled};
 use crate::pairs::EdgePair;
 use crate::pairs::count_run;
 use crate::pairs::edge_pair;

@@ -16,5 +16,4 @@ pub mod Joined
 pub mod Reading
 pub mod Apart
 pub mod Meeting
-pub mod Totals
-pub mod Row
+pub mod Lent

@@ -59,9 +59,10 @@ fn is_within(threshold: u32, code: u32) -> bool
     code - 1 <= threshold
 }
 
-// The edges are two, and no route between them is within the threshold: their events need not be looked at.
+// The edges are two, and no route between them is within the threshold: their events need not be looked at, at this threshold or a
+// lower one.
 pub(crate) fn is_apart(threshold: u32, edges: Edges) -> bool
-    ensures { λ r. ⌜ (r ≡ true → (x y : ℕ) → isReached threshold edges x y ≡ false) ⌝ }
+    ensures { λ r. ⌜ (r ≡ true → (t : ℕ) → t ≤ threshold → (x y : ℕ) → isReached t edges x y ≡ false) ⌝ }
 {
     if edges.same {
         return false;
@@ -79,7 +80,7 @@ pub(crate) fn is_apart(threshold: u32, edges: Edges) -> bool
 }
 
 // For each event of the first edge, how many of the second are reached: counted from the positions that a sweep leaves.
-pub(crate) fn count_pairs(
+fn count_pairs(
     threshold: u32,
     edges: Edges,
     xs: &[u32],
@@ -94,4 +95,22 @@ pub(crate) fn count_pairs(
 {
     sweep_edges(threshold, edges, xs, ys, positions, moves);
     count_swept(positions, xs.len(), ys.len() as u64)
+}
+
+// The same, left at once where no route between two edges is within the threshold. What positions and moves hold is free.
+pub(crate) fn count_within(
+    threshold: u32,
+    edges: Edges,
+    xs: &[u32],
+    ys: &[u32],
+    positions: &mut [u32],
+    moves: &mut [u32],
+) -> u64
+    requires { ⌜ EdgesSweepable edges (now xs) (now ys) (now positions) (now moves) ⌝ }
+    ensures { λ r. ⌜ (r ≡ reachedPairs threshold edges (now (xs .entry)) (now (ys .entry))) × (r ≤ 67108864) ⌝ }
+{
+    if is_apart(threshold, edges) {
+        return 0;
+    }
+    count_pairs(threshold, edges, xs, ys, positions, moves)
 }

@@ -1,13 +1,17 @@
-// The runs of one set beside each other.
-use crate::pairs::count_pairs;
+// The pairs of a set at every threshold, run by run.
+use crate::pairs::count_within;
 use crate::pairs::is_apart;
 use crate::pairs::table_edges;
+use crate::sweep::Edges;
 ghost use mathlib.Core.Path.{_≡_};
-ghost use Prim.Native.Nat.{suc, _-_, _≤_, _<_};
+ghost use Prim.Native.Nat.{suc, _≤_, _<_};
 ghost use lib.ListN.{length, getD};
 ghost use Rattle.model.specs.Network.{network};
-ghost use Rattle.prepare.specs.RunPairs.{runPairs, earlierPairs, otherPairs, RunsReady, SumFits};
+ghost use Rattle.prepare.specs.RunPairs.{runPairs};
+ghost use Rattle.prepare.specs.Totals.{Steps, ReadyAt, UpTo, AddedAt, EarlierAdded, Totalled};
+ghost use Rattle.neighbor_sharing.specs.Joined.{reachedPairs};
 ghost use Rattle.neighbor_sharing.specs.Runs.{SweepRoom};
+ghost use Rattle.neighbor_sharing.specs.Six.{EdgesSweepable};
 
 // An entry of a list as a place.
 pub(crate) fn place(list: &[u32], k: usize) -> usize
@@ -17,9 +21,39 @@ pub(crate) fn place(list: &[u32], k: usize) -> usize
     list[k] as usize
 }
 
-// How many events of run b lie within the threshold of one of run a, over all of run a; b is no later than a. It leaves at once
-// where no route between the two edges is within the threshold. What positions and moves hold is free.
-fn meet_runs(
+fn threshold_at(thresholds: &[u32], k: usize) -> u32
+    requires { ⌜ k < length (now thresholds) ⌝ }
+    ensures { λ r. ⌜ r ≡ getD (now (thresholds .entry)) k 0 ⌝ }
+{
+    thresholds[k]
+}
+
+// Adds, at each threshold, how many events of a run on the second edge are reached from those of one on the first. What positions
+// and moves hold is free.
+fn add_counts(
+    pair: Edges,
+    xs: &[u32],
+    ys: &[u32],
+    positions: &mut [u32],
+    moves: &mut [u32],
+    thresholds: &[u32],
+    totals: &mut [u64],
+)
+    requires { ⌜ EdgesSweepable pair (now xs) (now ys) (now positions) (now moves) × UpTo (length (now thresholds)) 9223372036854775808 (now totals) ⌝ }
+    ensures { λ _. ⌜ AddedAt (length (now (thresholds .entry))) (λ k. reachedPairs (getD (now (thresholds .entry)) k 0) pair (now (xs .entry)) (now (ys .entry))) (now (totals .entry)) (now (totals .exit)) ⌝ }
+{
+    let mut k = 0;
+    while k < thresholds.len() {
+        let threshold = threshold_at(thresholds, k);
+        let found = count_within(threshold, pair, xs, ys, positions, moves);
+        totals[k] += found;
+        k += 1;
+    }
+}
+
+// The same for two runs of a set, b no later than a: left at once where no route between their edges is within the greatest
+// threshold.
+fn add_runs(
     nodes: u32,
     firsts: &[u32],
     seconds: &[u32],
@@ -30,12 +64,13 @@ fn meet_runs(
     bounds: &[u32],
     positions: &mut [u32],
     moves: &mut [u32],
-    threshold: u32,
+    thresholds: &[u32],
     a: usize,
     b: usize,
-) -> u64
-    requires { ⌜ RunsReady (network nodes (now firsts) (now seconds) (now lengths)) (now table) (now edges) (now offsets) (now bounds) b (suc a) threshold × (b ≤ a) × SweepRoom (now positions) (now moves) ⌝ }
-    ensures { λ x. ⌜ (x ≡ runPairs (network nodes (now (firsts .entry)) (now (seconds .entry)) (now (lengths .entry))) (now (edges .entry)) (now (offsets .entry)) (now (bounds .entry)) threshold a b) × (x ≤ 67108864) ⌝ }
+    totals: &mut [u64],
+)
+    requires { ⌜ ReadyAt (network nodes (now firsts) (now seconds) (now lengths)) (now table) (now edges) (now offsets) (now bounds) (now thresholds) b (suc a) × (b ≤ a) × Steps (now thresholds) × UpTo (length (now thresholds)) 9223372036854775808 (now totals) × SweepRoom (now positions) (now moves) ⌝ }
+    ensures { λ _. ⌜ AddedAt (length (now (thresholds .entry))) (λ k. runPairs (network nodes (now (firsts .entry)) (now (seconds .entry)) (now (lengths .entry))) (now (edges .entry)) (now (offsets .entry)) (now (bounds .entry)) (getD (now (thresholds .entry)) k 0) a b) (now (totals .entry)) (now (totals .exit)) ⌝ }
 {
     let from = place(bounds, a);
     let to = place(bounds, a + 1);
@@ -44,21 +79,23 @@ fn meet_runs(
     let e = place(edges, from);
     let f = place(edges, other_from);
     let pair = table_edges(nodes, firsts, seconds, lengths, table, e - 1, f - 1);
-    if is_apart(threshold, pair) {
-        return 0;
+    let greatest = threshold_at(thresholds, thresholds.len() - 1);
+    if is_apart(greatest, pair) {
+        return;
     }
-    count_pairs(
-        threshold,
+    add_counts(
         pair,
         &offsets[from..to],
         &offsets[other_from..other_to],
         positions,
         moves,
-    )
+        thresholds,
+        totals,
+    );
 }
 
-// Run a beside the earlier ones of its set, of which r is the first.
-fn earlier_total(
+// The same for run a and every earlier one of its set, of which r is the first.
+fn add_earlier(
     nodes: u32,
     firsts: &[u32],
     seconds: &[u32],
@@ -69,17 +106,17 @@ fn earlier_total(
     bounds: &[u32],
     positions: &mut [u32],
     moves: &mut [u32],
-    threshold: u32,
+    thresholds: &[u32],
     r: usize,
     a: usize,
-) -> u64
-    requires { ⌜ RunsReady (network nodes (now firsts) (now seconds) (now lengths)) (now table) (now edges) (now offsets) (now bounds) r (suc a) threshold × (r ≤ a) × SweepRoom (now positions) (now moves) ⌝ }
-    ensures { λ x. ⌜ (x ≡ earlierPairs (network nodes (now (firsts .entry)) (now (seconds .entry)) (now (lengths .entry))) (now (edges .entry)) (now (offsets .entry)) (now (bounds .entry)) threshold r a (a - r)) × (x ≤ 549755813888) ⌝ }
+    totals: &mut [u64],
+)
+    requires { ⌜ ReadyAt (network nodes (now firsts) (now seconds) (now lengths)) (now table) (now edges) (now offsets) (now bounds) (now thresholds) r (suc a) × (r ≤ a) × Steps (now thresholds) × UpTo (length (now thresholds)) 4611686018427387904 (now totals) × SweepRoom (now positions) (now moves) ⌝ }
+    ensures { λ _. ⌜ EarlierAdded (network nodes (now (firsts .entry)) (now (seconds .entry)) (now (lengths .entry))) (now (edges .entry)) (now (offsets .entry)) (now (bounds .entry)) (now (thresholds .entry)) r a (now (totals .entry)) (now (totals .exit)) ⌝ }
 {
-    let mut total = 0;
     let mut b = r;
     while b < a {
-        total += meet_runs(
+        add_runs(
             nodes,
             firsts,
             seconds,
@@ -90,18 +127,17 @@ fn earlier_total(
             bounds,
             positions,
             moves,
-            threshold,
+            thresholds,
             a,
             b,
+            totals,
         );
         b += 1;
     }
-    total
 }
 
-// The count of a set whose runs are those from r up to before q: every run beside itself, beside each earlier one and back, and
-// each event beside itself taken off.
-pub(crate) fn set_total(
+// The runs of a set, which are those from r up to before q: each beside itself, and each with every earlier one.
+pub(crate) fn add_all(
     nodes: u32,
     firsts: &[u32],
     seconds: &[u32],
@@ -112,17 +148,18 @@ pub(crate) fn set_total(
     bounds: &[u32],
     positions: &mut [u32],
     moves: &mut [u32],
-    threshold: u32,
+    thresholds: &[u32],
     r: usize,
     q: usize,
-) -> u32
-    requires { ⌜ RunsReady (network nodes (now firsts) (now seconds) (now lengths)) (now table) (now edges) (now offsets) (now bounds) r q threshold × SumFits (network nodes (now firsts) (now seconds) (now lengths)) (now edges) (now offsets) (now bounds) r q threshold × SweepRoom (now positions) (now moves) ⌝ }
-    ensures { λ x. ⌜ x ≡ otherPairs (network nodes (now (firsts .entry)) (now (seconds .entry)) (now (lengths .entry))) (now (edges .entry)) (now (offsets .entry)) (now (bounds .entry)) threshold r q ⌝ }
+    beside: &mut [u64],
+    earlier: &mut [u64],
+)
+    requires { ⌜ ReadyAt (network nodes (now firsts) (now seconds) (now lengths)) (now table) (now edges) (now offsets) (now bounds) (now thresholds) r q × Steps (now thresholds) × UpTo (length (now thresholds)) 0 (now beside) × UpTo (length (now thresholds)) 0 (now earlier) × SweepRoom (now positions) (now moves) ⌝ }
+    ensures { λ _. ⌜ Totalled (network nodes (now (firsts .entry)) (now (seconds .entry)) (now (lengths .entry))) (now (edges .entry)) (now (offsets .entry)) (now (bounds .entry)) (now (thresholds .entry)) r q (now (beside .exit)) (now (earlier .exit)) ⌝ }
 {
-    let mut total = 0;
     let mut a = r;
     while a < q {
-        let own = meet_runs(
+        add_runs(
             nodes,
             firsts,
             seconds,
@@ -133,11 +170,12 @@ pub(crate) fn set_total(
             bounds,
             positions,
             moves,
-            threshold,
+            thresholds,
             a,
             a,
+            beside,
         );
-        let earlier = earlier_total(
+        add_earlier(
             nodes,
             firsts,
             seconds,
@@ -148,13 +186,11 @@ pub(crate) fn set_total(
             bounds,
             positions,
             moves,
-            threshold,
+            thresholds,
             r,
             a,
+            earlier,
         );
-        total += own + 2 * earlier;
         a += 1;
     }
-    let events = place(bounds, q) - place(bounds, r);
-    (total - events as u64) as u32
 }

@@ -1,26 +1,36 @@
 // The counts of all sets at all thresholds.
+use crate::runs::add_all;
 use crate::runs::place;
-use crate::runs::set_total;
 ghost use mathlib.Core.Path.{_≡_};
-ghost use Prim.Native.Nat.{_<_};
-ghost use lib.ListN.{length, getD};
+ghost use lib.ListN.{length};
 ghost use Rattle.model.specs.Network.{network};
 ghost use Rattle.prepare.specs.Counts.{CountsAnswered};
 ghost use Rattle.prepare.specs.RunPairs.{otherRow, RowReady};
+ghost use Rattle.prepare.specs.Totals.{Steps, RowFits, RowSummed};
 ghost use Rattle.neighbor_sharing.specs.Runs.{SweepRoom};
 use model::Check;
 use model::EventSet;
+use model::Thresholds;
 
 // Six cursors, each with a position at every event of the first edge.
 const MOVES: usize = 6;
 
 const POSITIONS: usize = MOVES * EventSet::MAX_EVENTS;
 
-fn threshold_at(thresholds: &[u32], k: usize) -> u32
-    requires { ⌜ k < length (now thresholds) ⌝ }
-    ensures { λ r. ⌜ r ≡ getD (now (thresholds .entry)) k 0 ⌝ }
+// The counts of a set at each threshold: the pairs within its runs and twice those with earlier ones; an event is no pair with itself.
+fn write_row(bounds: &[u32], r: usize, q: usize, beside: &[u64], earlier: &[u64], row: &mut [u32])
+    requires { ⌜ RowFits (now bounds) r q (now beside) (now earlier) (length (now row)) ⌝ }
+    ensures { λ _. ⌜ RowSummed (now (bounds .entry)) r q (now (beside .entry)) (now (earlier .entry)) (now (row .entry)) (now (row .exit)) ⌝ }
 {
-    thresholds[k]
+    let events = place(bounds, q) - place(bounds, r);
+    let themselves = events as u64;
+    let mut k = 0;
+    while k < row.len() {
+        let total = beside[k] + 2 * earlier[k];
+        let others = total - themselves;
+        row[k] = others as u32;
+        k += 1;
+    }
 }
 
 // The row of a set whose runs are those from r up to before q: its count at each threshold.
@@ -40,29 +50,29 @@ fn set_row(
     q: usize,
     row: &mut [u32],
 )
-    requires { ⌜ RowReady (network nodes (now firsts) (now seconds) (now lengths)) (now table) (now edges) (now offsets) (now bounds) (now thresholds) r q × (length (now row) ≡ length (now thresholds)) × SweepRoom (now positions) (now moves) ⌝ }
+    requires { ⌜ RowReady (network nodes (now firsts) (now seconds) (now lengths)) (now table) (now edges) (now offsets) (now bounds) (now thresholds) r q × Steps (now thresholds) × (length (now row) ≡ length (now thresholds)) × SweepRoom (now positions) (now moves) ⌝ }
     ensures { λ _. ⌜ now (row .exit) ≡ otherRow (network nodes (now (firsts .entry)) (now (seconds .entry)) (now (lengths .entry))) (now (edges .entry)) (now (offsets .entry)) (now (bounds .entry)) (now (thresholds .entry)) r q ⌝ }
 {
-    let mut k = 0;
-    while k < thresholds.len() {
-        let threshold = threshold_at(thresholds, k);
-        row[k] = set_total(
-            nodes,
-            firsts,
-            seconds,
-            lengths,
-            table,
-            edges,
-            offsets,
-            bounds,
-            positions,
-            moves,
-            threshold,
-            r,
-            q,
-        );
-        k += 1;
-    }
+    let mut beside = [0u64; Thresholds::MAX_THRESHOLDS];
+    let mut earlier = [0u64; Thresholds::MAX_THRESHOLDS];
+    add_all(
+        nodes,
+        firsts,
+        seconds,
+        lengths,
+        table,
+        edges,
+        offsets,
+        bounds,
+        positions,
+        moves,
+        thresholds,
+        r,
+        q,
+        &mut beside,
+        &mut earlier,
+    );
+    write_row(bounds, r, q, &beside, &earlier, row);
 }
 
 // The same for all sets, with working storage lent.

@@ -17,4 +17,7 @@ pub mod RunEvents
 pub mod CountRows
 pub mod RunPairs
 pub mod SetPairs
+pub mod Totals
+pub mod Filled
+pub mod TotalRows
 pub mod AllSets

@@ -2,6 +2,7 @@
 pub mod Counts
 pub mod Prepared
 pub mod RunPairs
+pub mod Totals
 pub mod EndTable
 pub mod Laying
 pub mod Cutting

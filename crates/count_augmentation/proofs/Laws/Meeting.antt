@@ -11,12 +11,13 @@ use Rattle.model.specs.Limits.{maxEvents}
 use Rattle.model.specs.Location.{at-first, at-second, endNode}
 use Rattle.model.specs.Network.{Network, edges, size}
 use Rattle.prepare.proofs.Laws.RunPairs.{run-is, run-codes, part-of-length}
+use Rattle.prepare.proofs.Laws.Totals.{to-greatest}
 use Rattle.prepare.specs.RunPairs.{edgeOf, partOf, runPairs, RunsReady}
 use Rattle.count_augmentation.specs.Pairs.{edgePair, reachedBy, reachedPairs, TwoRuns}
 use Rattle.count_augmentation.specs.Reach.{reached}
 use Rattle.count_augmentation.specs.Runs.{RunStored}
 use Rattle.count_augmentation.specs.Storing.{OnEdge}
-use Rattle.count_augmentation.specs.Totals.{Steps, ReadyAt, AddedAt}
+use Rattle.prepare.specs.Totals.{Steps, ReadyAt, AddedAt}
 use Rattle.count_augmentation.specs.declared.pairs.EdgePair.{EdgePair}
 use Rattle.count_augmentation.proofs.Laws.Near.{reached-within}
 use Rattle.count_augmentation.proofs.Laws.Pairs.{no-pairs}
@@ -120,9 +121,4 @@ module _ {net : Network} {table es xs bounds ts : List ℕ} {a b : ℕ} (w : Rea
 
   -- no route is within the greatest
   pub runs-apart : (old : List ℕ) → Steps ts → (greatest : ℕ) → greatest ≡ getD ts (length ts - 1) 0 → ((t : ℕ) → t ≤ greatest → (x : ℕ) (ys : List ℕ) → reachedBy g t x ys ≡ 0) → AddedAt (length ts) (λ k. runPairs net es xs bounds (getD ts k 0) a b) old old
-  runs-apart old steps greatest last none = record { at = λ k h. omega (arith, met-at k h 0 (no-pairs g (getD ts k 0) _ _ (none (getD ts k 0) (lower k h)))) }
-    where
-      lower : (k : ℕ) → k < length ts → getD ts k 0 ≤ greatest
-      lower k h =
-          let same : length ts - 1 ≡ pred (length ts) = omega arith in
-          rw (last, same) (steps .to-last k h)
+  runs-apart old steps greatest last none = record { at = λ k h. omega (arith, met-at k h 0 (no-pairs g (getD ts k 0) _ _ (none (getD ts k 0) (to-greatest steps greatest last k h)))) }

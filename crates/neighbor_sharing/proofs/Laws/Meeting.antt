@@ -15,13 +15,14 @@ use Rattle.model.specs.Network.{Network, edges, size}
 use Rattle.model.specs.NodeDistance.{boundedDistance}
 use Rattle.model.specs.PairCount.{eventDistance}
 use Rattle.model.proofs.Laws.Arrival.{count-places}
-use Rattle.model.proofs.Laws.Counting.{sum-below-cong, sum-below-zero}
-use Rattle.model.proofs.Laws.Cover.{none-pass}
+use Rattle.model.proofs.Laws.Counting.{sum-below-cong}
 use Rattle.model.proofs.Laws.Routes.{some-route, event-within}
 use Rattle.prepare.specs.Prepared.{entry}
 use Rattle.prepare.specs.RunPairs.{edgeOf, partOf, runPairs, RunsReady}
+use Rattle.prepare.specs.Totals.{Steps, ReadyAt, AddedAt}
 use Rattle.prepare.proofs.Laws.RunPairs.{TwoRead, run-is, run-codes}
-use Rattle.neighbor_sharing.proofs.Laws.Apart.{decoded-code}
+use Rattle.prepare.proofs.Laws.Totals.{to-greatest}
+use Rattle.neighbor_sharing.proofs.Laws.Apart.{decoded-code, no-pairs}
 use Rattle.neighbor_sharing.specs.Joined.{reachedBy, isReached, reachedPairs}
 use Rattle.neighbor_sharing.specs.Runs.{tableEdges, SweepRoom}
 use Rattle.neighbor_sharing.specs.Six.{decoded, codeBetween, distanceBetween, Laid, EdgesSweepable}
@@ -70,12 +71,6 @@ module _ {net : Network} {table es xs bounds : List ℕ} {r q t : ℕ} (w : Runs
     pub pairs-are : reachedPairs t (tableEdges net table i j) xs-a xs-b ≡ runPairs net es xs bounds t a b
     unfolding reachedPairs runPairs
     pairs-are = sum-below-cong (length xs-a) _ _ (λ k h. count-places _ _ xs-b (λ l m. reached-within k l h m))
-
-    pub none-are : ((x y : ℕ) → isReached t (tableEdges net table i j) x y ≡ false) → 0 ≡ runPairs net es xs bounds t a b
-    none-are off = sym none ∙ pairs-are
-      where
-        none : reachedPairs t (tableEdges net table i j) xs-a xs-b ≡ 0
-        none = unfold reachedPairs in sum-below-zero (length xs-a) _ (λ k h. none-pass _ xs-b (λ l m. off _ _))
 
 -- the parts of two runs lie within the offsets
 pub record PartsIn (xs : List ℕ) (from to other-from other-to : ℕ) : Type 0 where
@@ -148,11 +143,20 @@ module _ {net : Network} {table es xs bounds : List ℕ} {a b t : ℕ} (w : Runs
             sums-room = room .moves-room;
           })
 
-      -- what it counts, and what is left at once
-      pub counted : (x : ℕ) → (x ≡ reachedPairs t g (take (to - from) (drop from xs)) (take (other-to - other-from) (drop other-from xs))) × (x ≤ 67108864) → (x ≡ runPairs net es xs bounds t a b) × (x ≤ 67108864)
-      counted x (same, small) =
-          ((rw (part-a, part-b, edges-are) at same) ∙ pairs-are w a b le (omega arith) (omega arith) (omega arith), small)
+      -- what it counts
+      pub counted : (x : ℕ) → x ≡ reachedPairs t g (take (to - from) (drop from xs)) (take (other-to - other-from) (drop other-from xs)) → x ≡ runPairs net es xs bounds t a b
+      counted x same =
+          (rw (part-a, part-b, edges-are) at same) ∙ pairs-are w a b le (omega arith) (omega arith) (omega arith)
 
-      pub left-at-once : ((x y : ℕ) → isReached t g x y ≡ false) → (0 ≡ runPairs net es xs bounds t a b) × (0 ≤ 67108864)
-      left-at-once off =
-          (none-are w a b le (omega arith) (omega arith) (omega arith) (rw edges-are at off), omega arith)
+-- at every threshold
+module _ {net : Network} {table es xs bounds ts : List ℕ} {a b : ℕ} (w : ReadyAt net table es xs bounds ts b (suc a)) (le : b ≤ a)
+    {from to other-from other-to e f : ℕ} (cut : TwoRead es bounds a b from to other-from other-to e f) (g : Edges) (is : g ≡ tableEdges net table (e - 1) (f - 1)) where
+  counted-at : (k : ℕ) → k < length ts → (x : ℕ) → x ≡ reachedPairs (getD ts k 0) g (take (to - from) (drop from xs)) (take (other-to - other-from) (drop other-from xs)) → x ≡ runPairs net es xs bounds (getD ts k 0) a b
+  counted-at k h = counted (w .at k h) le cut g is
+
+  pub runs-added : {old new : List ℕ} → AddedAt (length ts) (λ k. reachedPairs (getD ts k 0) g (take (to - from) (drop from xs)) (take (other-to - other-from) (drop other-from xs))) old new → AddedAt (length ts) (λ k. runPairs net es xs bounds (getD ts k 0) a b) old new
+  runs-added {old} found = record { at = λ k h. found .at k h ∙ ap (λ (n : ℕ). getD old k 0 + n) (counted-at k h _ refl) }
+
+  -- no route is within the greatest
+  pub left-at-once : (old : List ℕ) → Steps ts → (greatest : ℕ) → greatest ≡ getD ts (length ts - 1) 0 → ((t : ℕ) → t ≤ greatest → (x y : ℕ) → isReached t g x y ≡ false) → AddedAt (length ts) (λ k. runPairs net es xs bounds (getD ts k 0) a b) old old
+  left-at-once old steps greatest last off = record { at = λ k h. omega (arith, counted-at k h 0 (no-pairs (getD ts k 0) g _ _ (off (getD ts k 0) (to-greatest steps greatest last k h)))) }

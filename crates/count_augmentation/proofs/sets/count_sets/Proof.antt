@@ -7,7 +7,7 @@ use lib.ListN.{length}
 use Rattle.model.specs.Network.{network}
 use Rattle.prepare.proofs.Laws.AllSets.{Begun, begun, SetsWritten, sets-begin, row-fits, row-asks, set-written, refused-answered, all-answered}
 use Rattle.model.proofs.Laws.Pieces.{part-length}
-use Rattle.count_augmentation.proofs.Laws.Rows.{steps-accepted}
+use Rattle.prepare.proofs.Laws.TotalRows.{steps-accepted}
 use borrow.Author.Needs.{needs}
 use Rattle.count_augmentation.proofs.sets.count_sets.Statement.{statement}
 use Rattle.count_augmentation.proofs.sets.count_sets.Tie as tie

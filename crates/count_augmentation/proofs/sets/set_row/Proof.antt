@@ -1,5 +1,6 @@
 -- The numbers of the set's runs are stored, its pairs added up from them, and the row written.
-use Rattle.count_augmentation.proofs.Laws.Rows.{runs-storable, zeros, row-fits, row-is}
+use Rattle.count_augmentation.proofs.Laws.Stored.{runs-storable}
+use Rattle.prepare.proofs.Laws.TotalRows.{zeros, row-fits, row-is}
 use borrow.Author.Needs.{needs}
 use Rattle.count_augmentation.proofs.sets.set_row.Statement.{statement}
 use Rattle.count_augmentation.proofs.sets.set_row.Tie as tie

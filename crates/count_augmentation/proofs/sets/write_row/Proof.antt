@@ -3,8 +3,8 @@ use mathlib.Core.Path.{_≡_, refl, ap₂}
 use Prim.Native.Nat.{ℕ, _+_, _-_, _*_, _≤_, _<_}
 use native.Mathlib.Omega.{arith}
 use lib.ListN.{length, getD, length-set}
-use Rattle.count_augmentation.proofs.Laws.Rows.{leftOf, row-begins, row-ends}
-use Rattle.count_augmentation.proofs.Laws.Storing.{Filled, fills}
+use Rattle.prepare.proofs.Laws.TotalRows.{leftOf, row-begins, row-ends}
+use Rattle.prepare.proofs.Laws.Filled.{Filled, fills}
 use borrow.Author.Needs.{needs}
 use Rattle.count_augmentation.proofs.sets.write_row.Statement.{statement}
 use Rattle.count_augmentation.proofs.sets.write_row.Tie as tie

@@ -5,7 +5,7 @@ use native.Mathlib.Omega.{arith}
 use borrow.Author.Needs.{needs}
 use lib.ListN.{length, getD, length-set}
 use Rattle.count_augmentation.specs.Storing.{atMost}
-use Rattle.count_augmentation.proofs.Laws.Storing.{Filled, fills}
+use Rattle.prepare.proofs.Laws.Filled.{Filled, fills}
 use Rattle.count_augmentation.proofs.store.store_first.Statement.{statement}
 use Rattle.count_augmentation.proofs.store.store_first.Tie as tie
 

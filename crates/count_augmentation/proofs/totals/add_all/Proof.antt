@@ -2,7 +2,8 @@
 use Prim.Native.Nat.{_-_}
 use native.Mathlib.Omega.{arith}
 use Rattle.model.specs.Network.{network}
-use Rattle.count_augmentation.proofs.Laws.Totals.{AllTo, ready-part, stored-to, all-begins, beside-room, earlier-room, all-on, all-ends}
+use Rattle.count_augmentation.proofs.Laws.Stored.{stored-to}
+use Rattle.prepare.proofs.Laws.Totals.{AllTo, ready-part, all-begins, beside-room, earlier-room, all-on, all-ends}
 use borrow.Author.Needs.{needs}
 use Rattle.count_augmentation.proofs.totals.add_all.Statement.{statement}
 use Rattle.count_augmentation.proofs.totals.add_all.Tie as tie

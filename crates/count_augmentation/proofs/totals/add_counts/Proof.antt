@@ -4,7 +4,7 @@ use Prim.Native.Nat.{ℕ, _-_, _≤_, _<_}
 use native.Mathlib.Omega.{arith}
 use lib.ListN.{length, getD}
 use Rattle.count_augmentation.specs.Pairs.{reachedPairs}
-use Rattle.count_augmentation.proofs.Laws.Totals.{AddedTo, nothing-added, one-added, all-added}
+use Rattle.prepare.proofs.Laws.Totals.{AddedTo, nothing-added, one-added, all-added}
 use borrow.Author.Needs.{needs}
 use Rattle.count_augmentation.proofs.totals.add_counts.Statement.{statement}
 use Rattle.count_augmentation.proofs.totals.add_counts.Tie as tie

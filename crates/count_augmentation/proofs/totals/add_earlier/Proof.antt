@@ -2,7 +2,7 @@
 use Prim.Native.Nat.{_-_}
 use native.Mathlib.Omega.{arith}
 use Rattle.model.specs.Network.{network}
-use Rattle.count_augmentation.proofs.Laws.Totals.{EarlierTo, ready-part, earlier-begins, earlier-small, earlier-on, earlier-ends}
+use Rattle.prepare.proofs.Laws.Totals.{EarlierTo, ready-part, earlier-begins, earlier-small, earlier-on, earlier-ends}
 use borrow.Author.Needs.{needs}
 use Rattle.count_augmentation.proofs.totals.add_earlier.Statement.{statement}
 use Rattle.count_augmentation.proofs.totals.add_earlier.Tie as tie

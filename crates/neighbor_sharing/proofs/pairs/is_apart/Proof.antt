@@ -8,33 +8,33 @@ use Rattle.neighbor_sharing.proofs.pairs.is_apart.Statement.{statement}
 use Rattle.neighbor_sharing.proofs.pairs.is_apart.Tie as tie
 
 returns : tie.Need-returns
-returns c = λ e. absurd (false≢true e)
+returns c = λ e t h. absurd (false≢true e)
 
 is-within-requires : tie.Need-is-within-requires
 is-within-requires c κs = search needs
 
 returns-2 : tie.Need-returns-2
-returns-2 c = λ e. absurd (false≢true e)
+returns-2 c = λ e t h. absurd (false≢true e)
 
 is-within-requires-2 : tie.Need-is-within-requires-2
 is-within-requires-2 c κs = search needs
 
 returns-3 : tie.Need-returns-3
-returns-3 c = λ e. absurd (false≢true e)
+returns-3 c = λ e t h. absurd (false≢true e)
 
 is-within-requires-3 : tie.Need-is-within-requires-3
 is-within-requires-3 c κs = search needs
 
 returns-4 : tie.Need-returns-4
-returns-4 c = λ e. absurd (false≢true e)
+returns-4 c = λ e t h. absurd (false≢true e)
 
 is-within-requires-4 : tie.Need-is-within-requires-4
 is-within-requires-4 c κs = search needs
 
 returns-5 : tie.Need-returns-5
-returns-5 c = λ e.
+returns-5 c = λ e t h.
     let a = c .before .before .before .before .before .before .before .before .args in
-    nothing-reached (a .threshold) (a .edges) (c .before .before .before .before .before .before .before .if1 .left)
+    nothing-reached t (a .threshold) h (a .edges) (c .before .before .before .before .before .before .before .if1 .left)
     (four-routes (a .threshold) (a .edges)
     (sym (c .before .before .before .before .before .before .is-within .ensures) ∙ c .before .before .before .before .before .if2 .left)
     (sym (c .before .before .before .before .is-within2 .ensures) ∙ c .before .before .before .if3 .left)

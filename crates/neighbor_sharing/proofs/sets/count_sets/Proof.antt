@@ -7,7 +7,8 @@ use lib.ListN.{length}
 use Rattle.model.specs.Network.{network}
 use Rattle.prepare.proofs.Laws.AllSets.{Begun, begun, SetsWritten, sets-begin, row-fits, row-asks, set-written, refused-answered, all-answered}
 use Rattle.model.proofs.Laws.Pieces.{part-long}
-use Rattle.neighbor_sharing.proofs.Laws.Totals.{lent-arrays}
+use Rattle.prepare.proofs.Laws.TotalRows.{steps-accepted}
+use Rattle.neighbor_sharing.proofs.Laws.Lent.{lent-arrays}
 use borrow.Author.Needs.{needs}
 use Rattle.neighbor_sharing.proofs.sets.count_sets.Statement.{statement}
 use Rattle.neighbor_sharing.proofs.sets.count_sets.Tie as tie
@@ -90,6 +91,7 @@ set-row-requires c κs = (
         table-length = c .before .before .before .before .before .before .before .before .before .set-row-arg2 .given .0;
       })
       (c .before .before .before .before .before .before .before .before .before .before .before .before .before .before .before .before .before .loop-test .taken) (c .before .before .before .before .before .before .before .before .before .before .before .before .before .before .place .ensures) (c .before .before .before .before .before .before .before .before .before .before .before .place2 .ensures),
+  steps-accepted (fixed (c .before .before .before .before .before .before .before .before .before .before .before .before .before .before .before .before .before .before .before) .accepted .thresholds-are),
   part-long (c .before .before .before .before .before .before .before .before .before .before .before .before .before .before .before .before .before .before .loop .start) _ (c .before .before .before .before .before .before .before .before .before .before .before .before .before .before .before .before .before .before .loop .answers) (next-fits (c .before .before .before .before .before .before .before .before .before .before .before .before .before .before .before .before .before)),
   lent-arrays (c .before .before .set-row-arg9 .given .0 .1) (c .before .set-row-arg10 .given .0 .1),
 )

@@ -1,4 +1,4 @@
--- Storing numbers in passes from the back and from the front: how the loops go.
+-- A list filled from the back or from the front: how the loops go.
 use mathlib.Core.List.{List}
 use mathlib.Core.Path.{_≡_, _∙_}
 use Prim.Native.Nat.{ℕ, _-_, _≤_, _<_}

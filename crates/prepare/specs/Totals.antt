@@ -1,11 +1,11 @@
--- What the functions that add up a set's pairs at every threshold keep: cited by inner functions alone.
+-- What the functions of two methods that add up a set's pairs at every threshold keep: cited by inner functions alone.
 use mathlib.Core.List.{List}
 use mathlib.Core.Path.{_≡_}
 use Prim.Native.Nat.{ℕ, pred, _+_, _-_, _*_, _≤_, _<_}
 use lib.ListN.{length, getD}
 use Rattle.model.specs.Limits.{maxThresholds}
 use Rattle.model.specs.Network.{Network}
 use Rattle.prepare.specs.RunPairs.{allPairs, earlierPairs, RunsReady}
 
 -- there are some thresholds, not too many, and the last is the greatest
 pub record Steps (ts : List ℕ) : Type 0 where

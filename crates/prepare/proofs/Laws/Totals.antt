@@ -1,24 +1,26 @@
 -- The loops that add up a set's pairs at every threshold: what is added so far.
 use mathlib.Core.List.{List}
 use mathlib.Core.Path.{_≡_, refl, ap, _∙_}
-use Prim.Native.Nat.{ℕ, suc, _+_, _-_, _*_, _≤_, _<_}
+use Prim.Native.Nat.{ℕ, suc, pred, _+_, _-_, _*_, _≤_, _<_}
 use native.Mathlib.Decide.{ℕ-discrete}
 use native.Mathlib.Omega.{arith}
 use lib.ListN.{length, getD, set, length-set}
 use lib.Seq.{getD-set-same, getD-set-other}
 use Rattle.model.specs.Network.{Network}
 use Rattle.prepare.proofs.Laws.RunPairs.{ready-to, ready-from, pairs-few, earlier-none, earlier-next, all-none, all-next}
 use Rattle.prepare.specs.RunPairs.{runPairs, earlierPairs, allPairs}
-use Rattle.count_augmentation.specs.Runs.{RunsStored}
-use Rattle.count_augmentation.specs.Totals.{Steps, ReadyAt, UpTo, AddedAt, EarlierAdded, Totalled}
+use Rattle.prepare.specs.Totals.{Steps, ReadyAt, UpTo, AddedAt, EarlierAdded, Totalled}
 
 -- fewer runs
 pub ready-part : {net : Network} {table es xs bounds ts : List ℕ} {r q : ℕ} → ReadyAt net table es xs bounds ts r q → (b a : ℕ) → r ≤ b → b ≤ a → a < q → ReadyAt net table es xs bounds ts b (suc a)
 ready-part w b a h l m =
     record { at = λ k i. ready-from (ready-to (w .at k i) (suc a) (omega arith) m) b h (omega arith) }
 
-pub stored-to : {xs bounds near-first near-second : List ℕ} {r q : ℕ} → RunsStored xs bounds near-first near-second r q → (q′ : ℕ) → q′ ≤ q → RunsStored xs bounds near-first near-second r q′
-stored-to w q′ h = record { at = λ k l m. w .at k l (omega arith) }
+-- the last threshold as the code reads it
+pub to-greatest : {ts : List ℕ} → Steps ts → (greatest : ℕ) → greatest ≡ getD ts (length ts - 1) 0 → (k : ℕ) → k < length ts → getD ts k 0 ≤ greatest
+to-greatest {ts} steps greatest last k h =
+    let same : length ts - 1 ≡ pred (length ts) = omega arith in
+    rw (last, same) (steps .to-last k h)
 
 -- the first k totals have had their number added, the others not
 pub record AddedTo (f : ℕ → ℕ) (old : List ℕ) (k : ℕ) (new : List ℕ) : Type 0 where

@@ -1,4 +1,4 @@
--- The row of a set: its runs can be stored, and a row filled threshold by threshold is the set's.
+-- The row of a set: filled threshold by threshold from its totals, it is the set's.
 use mathlib.Core.List.{List, map}
 use mathlib.Core.Path.{_≡_, sym, ap, _∙_}
 use Prim.Native.Nat.{ℕ, _+_, _-_, _*_, _≤_, _<_}
@@ -7,35 +7,12 @@ use lib.ListN.{length, getD, length-map, replicate, length-replicate, getD-repli
 use lib.Seq.{ext-getD}
 use Rattle.model.proofs.Laws.Checks.{ThresholdsAccepted}
 use Rattle.model.proofs.Laws.Lists.{map-at}
-use Rattle.model.specs.Limits.{maxEvents}
 use Rattle.model.specs.Network.{Network}
-use Rattle.prepare.proofs.Laws.RunPairs.{run-is}
-use Rattle.prepare.proofs.Laws.SetPairs.{at-most-greatest}
 use Rattle.prepare.specs.Prepared.{greatest}
-use Rattle.prepare.specs.RunPairs.{allPairs, otherPairs, otherRow, RunsReady, RowReady}
-use Rattle.count_augmentation.specs.Runs.{RunsStorable}
-use Rattle.count_augmentation.specs.Totals.{Steps, UpTo, Totalled, RowFits, RowSummed}
-use Rattle.count_augmentation.proofs.Laws.Storing.{Filled}
-
--- the runs of a set can be stored
-pub runs-storable : {net : Network} {table es xs bounds : List ℕ} {r q t : ℕ} → RunsReady net table es xs bounds r q t → (near-first near-second : List ℕ) → maxEvents ≤ length near-first → maxEvents ≤ length near-second → RunsStorable xs bounds near-first near-second r q
-runs-storable w near-first near-second first-room second-room =
-    record {
-      in-order = w .in-order;
-      in-bounds = w .in-bounds;
-      at = λ k h l.
-          let up = w .begins k h l in
-          let end = w .ends-in k h l in
-          let few = w .few in
-          record {
-            begins = omega arith;
-            in-offsets = omega (arith, w .in-offsets);
-            in-first = omega arith;
-            in-second = omega arith;
-            few = omega arith;
-            rising = record { up = run-is w k h l .rising };
-          };
-    }
+use Rattle.prepare.specs.RunPairs.{allPairs, otherPairs, otherRow, RowReady}
+use Rattle.prepare.specs.Totals.{Steps, UpTo, Totalled, RowFits, RowSummed}
+use Rattle.prepare.proofs.Laws.Filled.{Filled}
+use Rattle.prepare.proofs.Laws.SetPairs.{at-most-greatest}
 
 -- what the code leaves of a total
 unfoldable pub leftOf : List ℕ → ℕ → ℕ → List ℕ → List ℕ → ℕ → ℕ
