@@ -16,38 +16,30 @@ Inv-loop list₀ k₀ list k = (length list ≡ length list₀) × ((j : ℕ) �
 abbrev μ-loop : tie.MeasureT-loop
 μ-loop list₀ k₀ list k = length list₀ - k
 
--- src/arcs.rt:43:5
 loop-holds : tie.Need-loop-holds Inv-loop μ-loop
 loop-holds c = search needs
 
--- src/arcs.rt:44:9
 mul-list : tie.Need-mul-list Inv-loop μ-loop
 mul-list c = search needs
 
--- src/arcs.rt:44:9
 slice-write-list : tie.Need-slice-write-list Inv-loop μ-loop
 slice-write-list c = search needs
 
--- src/arcs.rt:45:9
 add-k : tie.Need-add-k Inv-loop μ-loop
 add-k c = search needs
 
--- src/arcs.rt:43:5
 loop-less : tie.Need-loop-less Inv-loop μ-loop
 loop-less c = search needs
 
--- src/arcs.rt:43:5
 loop-again : tie.Need-loop-again Inv-loop μ-loop
 loop-again c = (
   simp length-set (c .before .loop .inv .0),
   λ j h. after-set (λ (j x : ℕ). x ≡ 0) (c .before .loop .list) (c .before .loop .k) 0 j (search needs) refl (λ other. c .before .loop .inv .1 j (omega arith)),
 )
 
--- src/arcs.rt:39:1
 same-length : tie.Need-same-length Inv-loop μ-loop
 same-length c = search needs
 
--- src/arcs.rt:39:1
 returns : tie.Need-returns Inv-loop μ-loop
 returns c = zeros (c .before .loop .list) (c .before .loop .k) (c .loop-test .left) (c .before .loop .inv .1)
 

@@ -27,15 +27,12 @@ Inv-loop nodes firsts seconds last₀ next₀ arcs a₀ last next a =
 abbrev μ-loop : tie.MeasureT-loop
 μ-loop nodes firsts seconds last₀ next₀ arcs a₀ last next a = arcs - a
 
--- src/arcs.rt:27:5
 clear-requires : tie.Need-clear-requires Inv-loop μ-loop
 clear-requires c κs = search needs
 
--- src/arcs.rt:28:16
 add-arcs : tie.Need-add-arcs Inv-loop μ-loop
 add-arcs c = search needs
 
--- src/arcs.rt:30:5
 loop-holds : tie.Need-loop-holds Inv-loop μ-loop
 loop-holds c =
     let start = c .before .before .before .before .before .before .before .before in (
@@ -45,55 +42,42 @@ loop-holds c =
       link-none _ _ _ _ _ (omega (arith, c .before .before .clear .kept .0, start .pre .1 .0 .0)) (c .before .before .clear .ensures),
     )
 
--- src/arcs.rt:31:17
 tail-of-requires : tie.Need-tail-of-requires Inv-loop μ-loop
 tail-of-requires c κs = search needs
 
--- src/arcs.rt:31:17
 cast-v : tie.Need-cast-v Inv-loop μ-loop
 cast-v c = search needs
 
--- src/arcs.rt:32:19
 mul-next : tie.Need-mul-next Inv-loop μ-loop
 mul-next c = search needs
 
--- src/arcs.rt:32:19
 slice-read-next : tie.Need-slice-read-next Inv-loop μ-loop
 slice-read-next c = omega (arith, c .before .tail-of .ensures, c .before .before .before .before .before .before .before .before .before .before .before .before .pre .1 .1 (c .before .before .before .loop .a) (omega arith))
 
--- src/arcs.rt:32:9
 mul-next-2 : tie.Need-mul-next-2 Inv-loop μ-loop
 mul-next-2 c = search needs
 
--- src/arcs.rt:32:9
 slice-write-next : tie.Need-slice-write-next Inv-loop μ-loop
 slice-write-next c = search needs
 
--- src/arcs.rt:33:20
 add-last : tie.Need-add-last Inv-loop μ-loop
 add-last c = search needs
 
--- src/arcs.rt:33:19
 cast-last : tie.Need-cast-last Inv-loop μ-loop
 cast-last c = search needs
 
--- src/arcs.rt:33:9
 mul-last : tie.Need-mul-last Inv-loop μ-loop
 mul-last c = search needs
 
--- src/arcs.rt:33:9
 slice-write-last : tie.Need-slice-write-last Inv-loop μ-loop
 slice-write-last c = omega (arith, c .before .tail-of .ensures, c .before .before .before .before .before .before .before .before .before .before .before .before .pre .1 .1 (c .before .before .before .loop .a) (omega arith))
 
--- src/arcs.rt:34:9
 add-a : tie.Need-add-a Inv-loop μ-loop
 add-a c = search needs
 
--- src/arcs.rt:30:5
 loop-less : tie.Need-loop-less Inv-loop μ-loop
 loop-less c = search needs
 
--- src/arcs.rt:30:5
 loop-again : tie.Need-loop-again Inv-loop μ-loop
 loop-again c =
     let start = c .before .before .before .before .before .before .before .before .before .before .before .before in
@@ -105,15 +89,12 @@ loop-again c =
           (link-more _ _ _ _ _ (here .a) (here .inv .3) (omega arith) (start .pre .1 .1 (here .a) (omega arith))),
     )
 
--- src/arcs.rt:21:1
 same-length : tie.Need-same-length Inv-loop μ-loop
 same-length c = search needs
 
--- src/arcs.rt:21:1
 same-length-2 : tie.Need-same-length-2 Inv-loop μ-loop
 same-length-2 c = search needs
 
--- src/arcs.rt:21:1
 returns : tie.Need-returns Inv-loop μ-loop
 returns c =
     let here = c .before .loop in

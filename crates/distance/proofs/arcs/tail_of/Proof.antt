@@ -7,28 +7,22 @@ use Rattle.distance.proofs.arcs.tail_of.Tie as tie
 use Rattle.distance.proofs.arcs.tail_of.Reads as reads
 use Rattle.distance.proofs.arcs.tail_of.Lts as lts
 
--- src/arcs.rt:14:9
 mul-result : tie.Need-mul-result
 mul-result c = search needs
 
--- src/arcs.rt:14:9
 shared-slice-read-result : tie.Need-shared-slice-read-result
 shared-slice-read-result c = search needs
 
--- src/arcs.rt:16:9
 mul-result-2 : tie.Need-mul-result-2
 mul-result-2 c = search needs
 
--- src/arcs.rt:16:9
 shared-slice-read-result-2 : tie.Need-shared-slice-read-result-2
 shared-slice-read-result-2 c = search needs
 
--- src/arcs.rt:8:1
 returns : tie.Need-returns
 unfolding tail
 returns c = simp (eq-eqb _ _ (c .before .if1 .taken))
 
--- src/arcs.rt:8:1
 returns-2 : tie.Need-returns-2
 unfolding tail
 returns-2 c = simp (ne-eqb _ _ (c .before .if1 .left))

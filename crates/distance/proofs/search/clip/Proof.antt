@@ -18,47 +18,36 @@ Inv-loop dist₀ bound v₀ dist v = Swept (Clipped bound) dist₀ dist v
 abbrev μ-loop : tie.MeasureT-loop
 μ-loop dist₀ bound v₀ dist v = length dist₀ - v
 
--- src/search.rt:116:5
 loop-holds : tie.Need-loop-holds Inv-loop μ-loop
 loop-holds c = sweep-none _ _
 
--- src/search.rt:117:27
 mul-clipped : tie.Need-mul-clipped Inv-loop μ-loop
 mul-clipped c = search needs
 
--- src/search.rt:117:27
 slice-read-clipped : tie.Need-slice-read-clipped Inv-loop μ-loop
 slice-read-clipped c = search needs
 
--- src/search.rt:117:19
 clipped-requires : tie.Need-clipped-requires Inv-loop μ-loop
 clipped-requires c κs = search needs
 
--- src/search.rt:117:9
 mul-dist : tie.Need-mul-dist Inv-loop μ-loop
 mul-dist c = search needs
 
--- src/search.rt:117:9
 slice-write-dist : tie.Need-slice-write-dist Inv-loop μ-loop
 slice-write-dist c = search needs
 
--- src/search.rt:118:9
 add-v : tie.Need-add-v Inv-loop μ-loop
 add-v c = search needs
 
--- src/search.rt:116:5
 loop-less : tie.Need-loop-less Inv-loop μ-loop
 loop-less c = search needs
 
--- src/search.rt:116:5
 loop-again : tie.Need-loop-again Inv-loop μ-loop
 loop-again c = sweep-more _ _ _ _ _ (c .before .before .before .loop .inv) (omega arith) (c .clipped .ensures)
 
--- src/search.rt:112:1
 same-length : tie.Need-same-length Inv-loop μ-loop
 same-length c = c .before .loop .inv .same-length
 
--- src/search.rt:112:1
 returns : tie.Need-returns Inv-loop μ-loop
 returns c = sweep-all _ _ _ (c .before .loop .v) (c .before .loop .inv) (c .loop-test .left) (record { near = λ h. refl; far = λ h. refl })
 

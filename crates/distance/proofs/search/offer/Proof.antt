@@ -8,63 +8,48 @@ use Rattle.distance.proofs.search.offer.Tie as tie
 use Rattle.distance.proofs.search.offer.Reads as reads
 use Rattle.distance.proofs.search.offer.Lts as lts
 
--- src/search.rt:86:15
 mul-old : tie.Need-mul-old
 mul-old c = search needs
 
--- src/search.rt:86:15
 slice-read-old : tie.Need-slice-read-old
 slice-read-old c = search needs
 
--- src/search.rt:88:9
 mul-dist : tie.Need-mul-dist
 mul-dist c = search needs
 
--- src/search.rt:88:9
 slice-write-dist : tie.Need-slice-write-dist
 slice-write-dist c = search needs
 
--- src/search.rt:89:9
 mul-front : tie.Need-mul-front
 mul-front c = omega (arith, c .before .before .pre .1 (c .if1 .taken))
 
--- src/search.rt:89:9
 slice-write-front : tie.Need-slice-write-front
 slice-write-front c = omega (arith, c .before .before .pre .1 (c .if1 .taken))
 
--- src/search.rt:90:16
 add-result : tie.Need-add-result
 add-result c = omega (arith, c .before .before .pre .1 (c .if1 .taken))
 
--- src/search.rt:90:9
 same-length : tie.Need-same-length
 same-length c = search needs
 
--- src/search.rt:90:9
 same-length-2 : tie.Need-same-length-2
 same-length-2 c = search needs
 
--- src/search.rt:90:9
 returns : tie.Need-returns
 returns c = entered (c .if1 .taken) refl refl refl
 
--- src/search.rt:93:9
 mul-dist-2 : tie.Need-mul-dist-2
 mul-dist-2 c = search needs
 
--- src/search.rt:93:9
 slice-write-dist-2 : tie.Need-slice-write-dist-2
 slice-write-dist-2 c = search needs
 
--- src/search.rt:81:1
 same-length-3 : tie.Need-same-length-3
 same-length-3 c = search needs
 
--- src/search.rt:81:1
 returns-2 : tie.Need-returns-2
 returns-2 c = lowered (omega arith) (c .if2 .taken) refl refl refl
 
--- src/search.rt:81:1
 returns-3 : tie.Need-returns-3
 returns-3 c = passed (omega arith) (c .if2 .left) refl refl refl
 

@@ -17,12 +17,6 @@ use Rattle.distance.proofs.Slots.{slot, reach, ready-again, chain-start
 use Rattle.distance.proofs.Ways.{last-le, last-fixed, last-leads}
 use Rattle.distance.proofs.search.search.Statement.{statement}
 use Rattle.distance.proofs.search.search.Tie as tie
-use Rattle.distance.proofs.search.search.Reads as reads
-use Rattle.distance.proofs.search.search.Lts as lts
-use Rattle.distance.proofs.arcs.clear.Reads as clear-reads
-use Rattle.distance.proofs.arcs.tail_of.Reads as tail-of-reads
-use Rattle.distance.proofs.search.clip.Reads as clip-reads
-use Rattle.distance.proofs.search.offer.Reads as offer-reads
 
 not-zero : (k : ℕ) → (k ≡ 0 → ⊥) → 0 < k
 not-zero k h = omega arith
@@ -63,25 +57,20 @@ abbrev μ-picking : tie.MeasureT-picking
 μ-picking nodes firsts seconds lengths last next source bound dist₀ front₀ len₀ picked₀ dist front len picked =
     nodes - picked
 
--- src/search.rt:35:5
 clear-requires : tie.Need-clear-requires Inv-loop μ-loop Inv-loop2 μ-loop2 Inv-picking μ-picking
 clear-requires c κs = search needs
 
--- src/search.rt:36:5
 mul-dist : tie.Need-mul-dist Inv-loop μ-loop Inv-loop2 μ-loop2 Inv-picking μ-picking
 mul-dist c = search needs
 
--- src/search.rt:36:5
 slice-write-dist :
     tie.Need-slice-write-dist Inv-loop μ-loop Inv-loop2 μ-loop2 Inv-picking μ-picking
 slice-write-dist c = omega (arith, c .before .before .before .before .before .before .before .before .before .before .before .pre .room, c .before .before .before .before .before .before .before .before .before .before .before .pre .source-is .to-nodes, c .before .before .clear .kept .0)
 
--- src/search.rt:37:5
 slice-write-front :
     tie.Need-slice-write-front Inv-loop μ-loop Inv-loop2 μ-loop2 Inv-picking μ-picking
 slice-write-front c = omega (arith, c .before .before .before .before .before .before .before .before .before .before .before .pre .front-room, c .before .before .before .before .before .before .before .before .before .before .before .pre .source-is)
 
--- src/search.rt:40:9
 picking-holds : tie.Need-picking-holds Inv-loop μ-loop Inv-loop2 μ-loop2 Inv-picking μ-picking
 picking-holds c =
     let pre = c .before .before .before .before .before .before .before .before .before .before .before .pre in
@@ -92,7 +81,6 @@ picking-holds c =
       refl,
     )
 
--- src/search.rt:43:9
 loop-holds : tie.Need-loop-holds Inv-loop μ-loop Inv-loop2 μ-loop2 Inv-picking μ-picking
 loop-holds c = (search needs, λ h. h, λ j h. omega arith, λ h. omega arith, λ h. refl)
 
@@ -111,15 +99,12 @@ mul-here-2 c = omega (arith, slot (c .before .before .before .picking .inv .0) (
 slice-read-here-2 : tie.Need-slice-read-here-2 Inv-loop μ-loop Inv-loop2 μ-loop2 Inv-picking μ-picking
 slice-read-here-2 c = omega (arith, slot (c .before .before .before .before .picking .inv .0) (c .before .before .before .before .picking .inv .1) (c .before .before .before .loop .k) (omega arith))
 
--- src/search.rt:53:13
 add-k : tie.Need-add-k Inv-loop μ-loop Inv-loop2 μ-loop2 Inv-picking μ-picking
 add-k c = omega (arith, slot (c .before .before .before .before .before .picking .inv .0) (c .before .before .before .before .before .picking .inv .1) (c .before .before .before .before .loop .k) (omega arith))
 
--- src/search.rt:43:9
 loop-less : tie.Need-loop-less Inv-loop μ-loop Inv-loop2 μ-loop2 Inv-picking μ-picking
 loop-less c = search needs
 
--- src/search.rt:43:9
 loop-again : tie.Need-loop-again Inv-loop μ-loop Inv-loop2 μ-loop2 Inv-picking μ-picking
 loop-again c =
     let here = c .before .before .before .before .loop in
@@ -147,70 +132,54 @@ loop-again c =
     ))
     (c .if3 .came)
 
--- src/search.rt:55:17
 mul-v : tie.Need-mul-v Inv-loop μ-loop Inv-loop2 μ-loop2 Inv-picking μ-picking
 mul-v c = omega (arith, slot (c .before .before .before .picking .inv .0) (c .before .before .before .picking .inv .1) (c .before .before .loop .best) (c .before .before .loop .inv .1 (omega arith)))
 
--- src/search.rt:55:17
 slice-read-v : tie.Need-slice-read-v Inv-loop μ-loop Inv-loop2 μ-loop2 Inv-picking μ-picking
 slice-read-v c = omega (arith, slot (c .before .before .before .before .picking .inv .0) (c .before .before .before .before .picking .inv .1) (c .before .before .before .loop .best) (c .before .before .before .loop .inv .1 (omega arith)))
 
--- src/search.rt:55:17
 cast-v : tie.Need-cast-v Inv-loop μ-loop Inv-loop2 μ-loop2 Inv-picking μ-picking
 cast-v c = omega (arith, slot (c .before .before .before .before .picking .inv .0) (c .before .before .before .before .picking .inv .1) (c .before .before .before .loop .best) (c .before .before .before .loop .inv .1 (omega arith)))
 
--- src/search.rt:56:20
 mul-if4 : tie.Need-mul-if4 Inv-loop μ-loop Inv-loop2 μ-loop2 Inv-picking μ-picking
 mul-if4 c = omega (arith, slot (c .before .before .before .before .picking .inv .0) (c .before .before .before .before .picking .inv .1) (c .before .before .before .loop .best) (c .before .before .before .loop .inv .1 (omega arith)))
 
--- src/search.rt:56:20
 slice-read-if4 : tie.Need-slice-read-if4 Inv-loop μ-loop Inv-loop2 μ-loop2 Inv-picking μ-picking
 slice-read-if4 c = omega (arith, slot (c .before .before .before .before .before .picking .inv .0) (c .before .before .before .before .before .picking .inv .1) (c .before .before .before .before .loop .best) (c .before .before .before .before .loop .inv .1 (omega arith)))
 
--- src/search.rt:56:20
 sub-if4 : tie.Need-sub-if4 Inv-loop μ-loop Inv-loop2 μ-loop2 Inv-picking μ-picking
 sub-if4 c = omega (arith, slot (c .before .before .before .before .before .picking .inv .0) (c .before .before .before .before .before .picking .inv .1) (c .before .before .before .before .loop .best) (c .before .before .before .before .loop .inv .1 (omega arith)))
 
--- src/search.rt:59:9
 sub-len : tie.Need-sub-len Inv-loop μ-loop Inv-loop2 μ-loop2 Inv-picking μ-picking
 sub-len c = search needs
 
--- src/search.rt:60:23
 mul-front : tie.Need-mul-front Inv-loop μ-loop Inv-loop2 μ-loop2 Inv-picking μ-picking
 mul-front c = omega (arith, slot (c .before .before .before .before .before .before .picking .inv .0) (c .before .before .before .before .before .before .picking .inv .1) (c .before .before .before .before .before .before .picking .len - 1) (omega arith))
 
--- src/search.rt:60:23
 slice-read-front :
     tie.Need-slice-read-front Inv-loop μ-loop Inv-loop2 μ-loop2 Inv-picking μ-picking
 slice-read-front c = omega (arith, slot (c .before .before .before .before .before .before .before .picking .inv .0) (c .before .before .before .before .before .before .before .picking .inv .1) (c .before .before .before .before .before .before .before .picking .len - 1) (omega arith))
 
--- src/search.rt:60:9
 mul-front-2 : tie.Need-mul-front-2 Inv-loop μ-loop Inv-loop2 μ-loop2 Inv-picking μ-picking
 mul-front-2 c = omega (arith, slot (c .before .before .before .before .before .before .before .picking .inv .0) (c .before .before .before .before .before .before .before .picking .inv .1) (c .before .before .before .before .before .before .loop .best) (c .before .before .before .before .before .before .loop .inv .1 (omega arith)))
 
--- src/search.rt:60:9
 slice-write-front-2 :
     tie.Need-slice-write-front-2 Inv-loop μ-loop Inv-loop2 μ-loop2 Inv-picking μ-picking
 slice-write-front-2 c = omega (arith, slot (c .before .before .before .before .before .before .before .picking .inv .0) (c .before .before .before .before .before .before .before .picking .inv .1) (c .before .before .before .before .before .before .loop .best) (c .before .before .before .before .before .before .loop .inv .1 (omega arith)))
 
--- src/search.rt:61:9
 add-picked : tie.Need-add-picked Inv-loop μ-loop Inv-loop2 μ-loop2 Inv-picking μ-picking
 add-picked c = omega (arith, few (c .before .before .before .before .before .before .before .picking .inv .1), c .before .before .before .before .before .before .before .picking .inv .0 .few-nodes)
 
--- src/search.rt:62:21
 mul-h : tie.Need-mul-h Inv-loop μ-loop Inv-loop2 μ-loop2 Inv-picking μ-picking
 mul-h c = omega (arith, slot (c .before .before .before .before .before .before .before .picking .inv .0) (c .before .before .before .before .before .before .before .picking .inv .1) (c .before .before .before .before .before .before .loop .best) (c .before .before .before .before .before .before .loop .inv .1 (omega arith)))
 
--- src/search.rt:62:21
 shared-slice-read-h :
     tie.Need-shared-slice-read-h Inv-loop μ-loop Inv-loop2 μ-loop2 Inv-picking μ-picking
 shared-slice-read-h c = omega (arith, slot (c .before .before .before .before .before .before .before .before .picking .inv .0) (c .before .before .before .before .before .before .before .before .picking .inv .1) (c .before .before .before .before .before .before .before .loop .best) (c .before .before .before .before .before .before .before .loop .inv .1 (omega arith)), c .before .before .before .before .before .before .before .before .picking .inv .0 .linked .last-length)
 
--- src/search.rt:62:21
 cast-h : tie.Need-cast-h Inv-loop μ-loop Inv-loop2 μ-loop2 Inv-picking μ-picking
 cast-h c = omega (arith, chain-start (c .before .before .before .before .before .before .before .before .picking .inv .0) _ (slot (c .before .before .before .before .before .before .before .before .picking .inv .0) (c .before .before .before .before .before .before .before .before .picking .inv .1) (c .before .before .before .before .before .before .before .loop .best) (c .before .before .before .before .before .before .before .loop .inv .1 (omega arith)) .node-small))
 
--- src/search.rt:63:9
 loop2-holds : tie.Need-loop2-holds Inv-loop μ-loop Inv-loop2 μ-loop2 Inv-picking μ-picking
 loop2-holds c =
     let s = c .before .before .before .before .before .before .before .before .picking in
@@ -227,11 +196,9 @@ loop2-holds c =
       refl,
     )
 
--- src/search.rt:40:9
 picking-less : tie.Need-picking-less Inv-loop μ-loop Inv-loop2 μ-loop2 Inv-picking μ-picking
 picking-less c = omega (arith, few (c .before .loop2 .inv .1 .state))
 
--- src/search.rt:40:9
 picking-again : tie.Need-picking-again Inv-loop μ-loop Inv-loop2 μ-loop2 Inv-picking μ-picking
 picking-again c =
     let s = c .before .before .before .before .before .before .before .before .before .before .picking in
@@ -242,38 +209,30 @@ picking-again c =
       f .5 ∙ simp length-set (s .inv .3 ∙ simp length-set),
     )
 
--- src/search.rt:67:21
 sub-a : tie.Need-sub-a Inv-loop μ-loop Inv-loop2 μ-loop2 Inv-picking μ-picking
 sub-a c = search needs
 
--- src/search.rt:68:17
 tail-of-requires :
     tie.Need-tail-of-requires Inv-loop μ-loop Inv-loop2 μ-loop2 Inv-picking μ-picking
 tail-of-requires c κs = omega (arith, reach (c .before .loop2 .inv .0) (c .before .loop2 .inv .1) (c .before .loop2 .h - 1) (omega (arith, c .before .loop2 .inv .3)))
 
--- src/search.rt:69:25
 mul-entry : tie.Need-mul-entry Inv-loop μ-loop Inv-loop2 μ-loop2 Inv-picking μ-picking
 mul-entry c = omega (arith, reach (c .before .before .loop2 .inv .0) (c .before .before .loop2 .inv .1) (c .before .before .loop2 .h - 1) (omega (arith, c .before .before .loop2 .inv .3)))
 
--- src/search.rt:69:25
 slice-read-entry :
     tie.Need-slice-read-entry Inv-loop μ-loop Inv-loop2 μ-loop2 Inv-picking μ-picking
 slice-read-entry c = omega (arith, reach (c .before .before .before .loop2 .inv .0) (c .before .before .before .loop2 .inv .1) (c .before .before .before .loop2 .h - 1) (omega (arith, c .before .before .before .loop2 .inv .3)))
 
--- src/search.rt:69:35
 mul-entry-2 : tie.Need-mul-entry-2 Inv-loop μ-loop Inv-loop2 μ-loop2 Inv-picking μ-picking
 mul-entry-2 c = omega (arith, reach (c .before .before .before .loop2 .inv .0) (c .before .before .before .loop2 .inv .1) (c .before .before .before .loop2 .h - 1) (omega (arith, c .before .before .before .loop2 .inv .3)))
 
--- src/search.rt:69:35
 shared-slice-read-entry :
     tie.Need-shared-slice-read-entry Inv-loop μ-loop Inv-loop2 μ-loop2 Inv-picking μ-picking
 shared-slice-read-entry c = omega (arith, reach (c .before .before .before .before .loop2 .inv .0) (c .before .before .before .before .loop2 .inv .1) (c .before .before .before .before .loop2 .h - 1) (omega (arith, c .before .before .before .before .loop2 .inv .3)))
 
--- src/search.rt:69:25
 add-entry : tie.Need-add-entry Inv-loop μ-loop Inv-loop2 μ-loop2 Inv-picking μ-picking
 add-entry c = omega (arith, reach (c .before .before .before .before .loop2 .inv .0) (c .before .before .before .before .loop2 .inv .1) (c .before .before .before .before .loop2 .h - 1) (omega (arith, c .before .before .before .before .loop2 .inv .3)))
 
--- src/search.rt:70:13
 offer-requires : tie.Need-offer-requires Inv-loop μ-loop Inv-loop2 μ-loop2 Inv-picking μ-picking
 offer-requires c κs =
     let f = c .before .before .before .before .before .before .loop2 .inv in
@@ -281,24 +240,19 @@ offer-requires c κs =
     let node = subst (IsNode _) (sym (w .ensures)) (arc-end _ (f .0 .ends) _ (omega (arith, f .3))) in
     (omega (arith, node .to-nodes, f .0 .room), front-has-room (w .result) (f .1 .state) node)
 
--- src/search.rt:71:17
 mul-h-2 : tie.Need-mul-h-2 Inv-loop μ-loop Inv-loop2 μ-loop2 Inv-picking μ-picking
 mul-h-2 c = omega (arith, reach (c .before .before .before .before .before .before .before .before .before .before .before .loop2 .inv .0) (c .before .before .before .before .before .before .before .before .before .before .before .loop2 .inv .1) (c .before .before .before .before .before .before .before .before .before .before .before .loop2 .h - 1) (omega (arith, c .before .before .before .before .before .before .before .before .before .before .before .loop2 .inv .3)))
 
--- src/search.rt:71:17
 shared-slice-read-h-2 :
     tie.Need-shared-slice-read-h-2 Inv-loop μ-loop Inv-loop2 μ-loop2 Inv-picking μ-picking
 shared-slice-read-h-2 c = omega (arith, reach (c .before .before .before .before .before .before .before .before .before .before .before .before .loop2 .inv .0) (c .before .before .before .before .before .before .before .before .before .before .before .before .loop2 .inv .1) (c .before .before .before .before .before .before .before .before .before .before .before .before .loop2 .h - 1) (omega (arith, c .before .before .before .before .before .before .before .before .before .before .before .before .loop2 .inv .3)))
 
--- src/search.rt:71:17
 cast-h-2 : tie.Need-cast-h-2 Inv-loop μ-loop Inv-loop2 μ-loop2 Inv-picking μ-picking
 cast-h-2 c = omega (arith, reach (c .before .before .before .before .before .before .before .before .before .before .before .before .loop2 .inv .0) (c .before .before .before .before .before .before .before .before .before .before .before .before .loop2 .inv .1) (c .before .before .before .before .before .before .before .before .before .before .before .before .loop2 .h - 1) (omega (arith, c .before .before .before .before .before .before .before .before .before .before .before .before .loop2 .inv .3)), chain-next (c .before .before .before .before .before .before .before .before .before .before .before .before .loop2 .inv .0) (c .before .before .before .before .before .before .before .before .before .before .before .before .loop2 .h - 1) (omega (arith, c .before .before .before .before .before .before .before .before .before .before .before .before .loop2 .inv .3)))
 
--- src/search.rt:63:9
 loop2-less : tie.Need-loop2-less Inv-loop μ-loop Inv-loop2 μ-loop2 Inv-picking μ-picking
 loop2-less c = omega (arith, chain-next (c .before .before .before .before .before .before .before .before .before .before .before .before .loop2 .inv .0) (c .before .before .before .before .before .before .before .before .before .before .before .before .loop2 .h - 1) (omega (arith, c .before .before .before .before .before .before .before .before .before .before .before .before .loop2 .inv .3)))
 
--- src/search.rt:63:9
 loop2-again : tie.Need-loop2-again Inv-loop μ-loop Inv-loop2 μ-loop2 Inv-picking μ-picking
 loop2-again c =
     let h = c .before .before .before .before .before .before .before .before .before .before .before .before .loop2 .h in
@@ -322,23 +276,18 @@ loop2-again c =
 enum-told : tie.Need-enum-told Inv-loop μ-loop Inv-loop2 μ-loop2 Inv-picking μ-picking
 enum-told c = search needs
 
--- src/search.rt:76:30
 enum-told-2 : tie.Need-enum-told-2 Inv-loop μ-loop Inv-loop2 μ-loop2 Inv-picking μ-picking
 enum-told-2 c = search needs
 
--- src/search.rt:76:25
 clip-requires : tie.Need-clip-requires Inv-loop μ-loop Inv-loop2 μ-loop2 Inv-picking μ-picking
 clip-requires c κs = search needs
 
--- src/search.rt:20:1
 same-length : tie.Need-same-length Inv-loop μ-loop Inv-loop2 μ-loop2 Inv-picking μ-picking
 same-length c = c .before .before .before .before .before .picking .inv .2 ∙ simp length-set (c .before .before .before .before .before .before .before .before .clear .kept .0)
 
--- src/search.rt:20:1
 same-length-2 : tie.Need-same-length-2 Inv-loop μ-loop Inv-loop2 μ-loop2 Inv-picking μ-picking
 same-length-2 c = c .before .before .before .before .before .picking .inv .3 ∙ simp length-set
 
--- src/search.rt:20:1
 returns : tie.Need-returns Inv-loop μ-loop Inv-loop2 μ-loop2 Inv-picking μ-picking
 returns c =
     let s = c .before .before .before .before .before .picking in
@@ -347,15 +296,12 @@ returns c =
     (λ w. let z : _≡_ {A = ℕ} 0 1 = cc (w .4, c .enum-told .given .1) in absurd (omega arith))
     (c .before .before .if2 .came)
 
--- src/search.rt:20:1
 same-length-3 : tie.Need-same-length-3 Inv-loop μ-loop Inv-loop2 μ-loop2 Inv-picking μ-picking
 same-length-3 c = c .before .before .clip .kept .0 ∙ c .before .before .before .before .before .before .before .before .before .picking .inv .2 ∙ simp length-set (c .before .before .before .before .before .before .before .before .before .before .before .before .clear .kept .0)
 
--- src/search.rt:20:1
 same-length-4 : tie.Need-same-length-4 Inv-loop μ-loop Inv-loop2 μ-loop2 Inv-picking μ-picking
 same-length-4 c = c .before .before .before .before .before .before .before .before .before .picking .inv .3 ∙ simp length-set
 
--- src/search.rt:20:1
 returns-2 : tie.Need-returns-2 Inv-loop μ-loop Inv-loop2 μ-loop2 Inv-picking μ-picking
 returns-2 c =
     let s = c .before .before .before .before .before .before .before .before .before .picking in

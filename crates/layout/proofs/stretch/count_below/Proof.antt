@@ -18,23 +18,18 @@ Inv-loop numbers limit count₀ k₀ count k = Tally (λ t. ltb t limit) numbers
 abbrev μ-loop : tie.MeasureT-loop
 μ-loop numbers limit count₀ k₀ count k = length numbers - k
 
--- src/stretch.rt:23:5
 loop-holds : tie.Need-loop-holds Inv-loop μ-loop
 loop-holds c = tally-none _ _
 
--- src/stretch.rt:24:31
 mul-one-if-below : tie.Need-mul-one-if-below Inv-loop μ-loop
 mul-one-if-below c = search needs
 
--- src/stretch.rt:24:31
 shared-slice-read-one-if-below : tie.Need-shared-slice-read-one-if-below Inv-loop μ-loop
 shared-slice-read-one-if-below c = search needs
 
--- src/stretch.rt:24:18
 one-if-below-requires : tie.Need-one-if-below-requires Inv-loop μ-loop
 one-if-below-requires c κs = search needs
 
--- src/stretch.rt:24:9
 add-count : tie.Need-add-count Inv-loop μ-loop
 add-count c =
     let start = c .before .before .before .before .before in
@@ -46,19 +41,15 @@ add-count c =
       c .one-if-below .ensures,
     )
 
--- src/stretch.rt:25:9
 add-k : tie.Need-add-k Inv-loop μ-loop
 add-k c = search needs
 
--- src/stretch.rt:23:5
 loop-less : tie.Need-loop-less Inv-loop μ-loop
 loop-less c = search needs
 
--- src/stretch.rt:23:5
 loop-again : tie.Need-loop-again Inv-loop μ-loop
 loop-again c = tally-more _ _ _ _ _ (c .before .before .before .loop .inv) (omega arith) (c .one-if-below .ensures)
 
--- src/stretch.rt:18:1
 returns : tie.Need-returns Inv-loop μ-loop
 returns c = tally-all _ _ _ _ (c .before .loop .inv) (c .loop-test .left)
 

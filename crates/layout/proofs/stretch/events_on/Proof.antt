@@ -13,42 +13,33 @@ use Rattle.layout.proofs.stretch.events_on.Lts as lts
 use Rattle.layout.proofs.stretch.count_below.Reads as count-below-reads
 use Rattle.validate.proofs.check_laid_out.Reads as check-laid-out-reads
 
--- src/stretch.rt:44:9
 check-laid-out-requires : tie.Need-check-laid-out-requires
 check-laid-out-requires c κs = search needs
 
--- src/stretch.rt:45:27
 enum-known-verdict : tie.Need-enum-known-verdict
 enum-known-verdict c = search needs
 
--- src/stretch.rt:48:16
 sub-result : tie.Need-sub-result
 sub-result c = search needs
 
--- src/stretch.rt:48:16
 part-result-start : tie.Need-part-result-start
 part-result-start c = search needs
 
--- src/stretch.rt:48:16
 part-result-end : tie.Need-part-result-end
 part-result-end c = search needs
 
--- src/stretch.rt:48:9
 returns : tie.Need-returns
 returns c = stretch-refused _ _ _ _ _ _ (sym (c .before .before .before .before .check-laid-out .ensures) ∙ c .before .before .verdict .given .1)
 
 enum-told : tie.Need-enum-told
 enum-told c = search needs
 
--- src/stretch.rt:52:9
 count-below-requires : tie.Need-count-below-requires
 count-below-requires c κs = search needs
 
--- src/stretch.rt:53:33
 add-count-below : tie.Need-add-count-below
 add-count-below c = search needs
 
--- src/stretch.rt:53:9
 count-below-requires-2 : tie.Need-count-below-requires-2
 count-below-requires-2 c κs = search needs
 
@@ -63,23 +54,18 @@ module _ (c : tie.After-count-below2) where
   on : OnEdge (c .before .before .before .before .before .before .before .before .before .before .args .edges .now) (c .before .before .before .before .before .before .before .before .before .before .args .offsets .now) (c .before .before .before .before .before .before .before .before .before .before .args .edge) (c .before .count-below .result) (c .count-below2 .result)
   on = on-edge net _ _ _ _ _ accepted (c .before .count-below .ensures) (c .count-below2 .ensures)
 
--- src/stretch.rt:54:5
 mul-result : tie.Need-mul-result
 mul-result c = omega (arith, on c, c .before .before .before .before .before .before .before .before .before .before .good)
 
--- src/stretch.rt:54:5
 sub-result-2 : tie.Need-sub-result-2
 sub-result-2 c = on c .in-order
 
--- src/stretch.rt:54:5
 part-result-start-2 : tie.Need-part-result-start-2
 part-result-start-2 c = on c .in-order
 
--- src/stretch.rt:54:5
 part-result-end-2 : tie.Need-part-result-end-2
 part-result-end-2 c = on c .inside
 
--- src/stretch.rt:31:1
 returns-2 : tie.Need-returns-2
 returns-2 c = stretch-accepted _ _ _ _ _ (accepted (c .before)) (on (c .before) .stretch)
 

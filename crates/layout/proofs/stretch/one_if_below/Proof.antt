@@ -7,12 +7,10 @@ use Rattle.layout.proofs.stretch.one_if_below.Tie as tie
 use Rattle.layout.proofs.stretch.one_if_below.Reads as reads
 use Rattle.layout.proofs.stretch.one_if_below.Lts as lts
 
--- src/stretch.rt:11:1
 returns : tie.Need-returns
 unfolding one-if
 returns c = rw (lt-ltb _ _ (c .if1 .taken))
 
--- src/stretch.rt:11:1
 returns-2 : tie.Need-returns-2
 unfolding one-if
 returns-2 c = rw (le-ltb _ _ (c .if1 .left))

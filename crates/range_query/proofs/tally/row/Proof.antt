@@ -18,66 +18,52 @@ Inv-loop ys p q other place steps buckets₀ j₀ buckets j = (j ≤ length ys) 
 abbrev μ-loop : tie.MeasureT-loop
 μ-loop ys p q other place steps buckets₀ j₀ buckets j = length ys - j
 
--- src/tally.rt:55:5
 loop-holds : tie.Need-loop-holds Inv-loop μ-loop
 unfolding countBelow sumBelow
 loop-holds c = (omega arith, added-none _ _)
 
--- src/tally.rt:56:56
 mul-meet : tie.Need-mul-meet Inv-loop μ-loop
 mul-meet c = search needs
 
--- src/tally.rt:56:56
 shared-slice-read-meet : tie.Need-shared-slice-read-meet Inv-loop μ-loop
 shared-slice-read-meet c = search needs
 
--- src/tally.rt:56:56
 cast-meet : tie.Need-cast-meet Inv-loop μ-loop
 cast-meet c = omega (arith, c .shared-slice-known2 .given (c .before .before .loop .j))
 
--- src/tally.rt:56:31
 meet-requires : tie.Need-meet-requires Inv-loop μ-loop
 meet-requires c κs = let f = c .before .before .before .before .pre in (f .p-to, f .q-to, f .on-other _ (c .before .loop-test .taken), f .other-to)
 
--- src/tally.rt:56:13
 bucket-requires : tie.Need-bucket-requires Inv-loop μ-loop
 bucket-requires c κs = c .before .before .before .before .before .pre .rising
 
--- src/tally.rt:57:9
 mul-buckets : tie.Need-mul-buckets Inv-loop μ-loop
 mul-buckets c = search needs
 
--- src/tally.rt:57:9
 element-copy-out-buckets : tie.Need-element-copy-out-buckets Inv-loop μ-loop
 element-copy-out-buckets c = search needs
 
--- src/tally.rt:57:9
 add-buckets : tie.Need-add-buckets Inv-loop μ-loop
 add-buckets c = record {
   fits =
       takes-more _ _ _ _ (c .before .before .before .before .before .before .before .pre .room) (c .before .before .before .before .loop-test .taken) (c .before .before .before .before .before .loop .inv .1) (c .before .bucket .ensures .fits);
 }
 
--- src/tally.rt:57:9
 element-write-buckets : tie.Need-element-write-buckets Inv-loop μ-loop
 element-write-buckets c = search needs
 
--- src/tally.rt:58:9
 add-j : tie.Need-add-j Inv-loop μ-loop
 add-j c = search needs
 
--- src/tally.rt:55:5
 loop-less : tie.Need-loop-less Inv-loop μ-loop
 loop-less c = search needs
 
--- src/tally.rt:55:5
 loop-again : tie.Need-loop-again Inv-loop μ-loop
 loop-again c = (
   omega arith,
   row-more _ _ _ _ (c .before .before .meet .ensures) (c .before .before .before .before .before .before .before .pre .room .long) (c .before .before .before .before .before .loop .inv .1) (c .before .bucket .ensures),
 )
 
--- src/tally.rt:42:1
 returns : tie.Need-returns Inv-loop μ-loop
 returns c = let e : c .before .loop .j ≡ length (c .before .before .before .args .ys .now) = omega arith in rw e at (c .before .loop .inv .1)
 

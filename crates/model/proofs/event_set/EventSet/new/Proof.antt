@@ -8,12 +8,10 @@ use Rattle.model.proofs.event_set.EventSet.new.Tie as tie
 use Rattle.model.proofs.event_set.EventSet.new.Reads as reads
 use Rattle.model.proofs.event_set.EventSet.new.Lts as lts
 
--- src/event_set.rt:27:13
 returns : tie.Need-returns
 unfolding eventSetOf madeBy eventsCheck unless
 returns c = simp (le-leb _ _ (c .if1 .taken))
 
--- src/event_set.rt:23:5
 returns-2 : tie.Need-returns-2
 unfolding eventSetOf madeBy eventsCheck unless
 returns-2 c = simp (lt-leb _ _ (c .if1 .left))

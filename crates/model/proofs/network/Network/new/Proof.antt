@@ -11,29 +11,23 @@ use Rattle.model.proofs.network.Network.new.Reads as reads
 use Rattle.model.proofs.network.Network.new.Lts as lts
 use Rattle.model.proofs.check.is_between.Reads as is-between-reads
 
--- src/network.rt:28:27
 cast-is-between : tie.Need-cast-is-between
 cast-is-between c = search needs
 
--- src/network.rt:28:13
 is-between-requires : tie.Need-is-between-requires
 is-between-requires c κs = search needs
 
--- src/network.rt:29:13
 returns : tie.Need-returns
 unfolding networkOf madeBy sizesCheck unless
 returns c = simp (sym (c .before .is-between .ensures) ∙ not-true _ (c .if1 .taken))
 
--- src/network.rt:31:13
 is-between-requires-2 : tie.Need-is-between-requires-2
 is-between-requires-2 c κs = search needs
 
--- src/network.rt:32:13
 returns-2 : tie.Need-returns-2
 unfolding networkOf madeBy sizesCheck unless
 returns-2 c = simp (sym (c .before .is-between2 .ensures) ∙ not-true _ (c .if2 .taken), and-false)
 
--- src/network.rt:25:5
 returns-3 : tie.Need-returns-3
 unfolding networkOf madeBy sizesCheck unless
 returns-3 c =

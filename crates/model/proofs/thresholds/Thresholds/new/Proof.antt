@@ -8,17 +8,14 @@ use Rattle.model.proofs.thresholds.Thresholds.new.Tie as tie
 use Rattle.model.proofs.thresholds.Thresholds.new.Reads as reads
 use Rattle.model.proofs.thresholds.Thresholds.new.Lts as lts
 
--- src/thresholds.rt:22:13
 returns : tie.Need-returns
 unfolding thresholdsOf madeBy thresholdCountCheck orElse unless
 returns c = simp (lt-leb _ _ (c .if1 .taken))
 
--- src/thresholds.rt:25:13
 returns-2 : tie.Need-returns-2
 unfolding thresholdsOf madeBy thresholdCountCheck orElse unless
 returns-2 c = simp (le-leb _ _ (c .before .if1 .left), lt-leb _ _ (c .if2 .taken))
 
--- src/thresholds.rt:18:5
 returns-3 : tie.Need-returns-3
 unfolding thresholdsOf madeBy thresholdCountCheck orElse unless
 returns-3 c = simp (le-leb _ _ (c .before .if1 .left), le-leb _ _ (c .if2 .left))
