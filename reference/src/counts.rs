@@ -184,12 +184,34 @@ impl StoredLeg<'_> {
         let k = self.offsets.partition_point(|&offset| i64::from(offset) < from);
         self.near_second.get(k).copied().unwrap_or(0)
     }
+
+    fn all(&self) -> u32 {
+        self.offsets.len() as u32
+    }
+
+    /// How many are reached, so far from the leg's first end and so far from
+    /// its second. Nothing is looked up where it reaches none or all.
+    fn reached(&self, by_u: i64, by_v: i64) -> u32 {
+        if by_u < 0 && by_v < 0 {
+            return 0;
+        }
+        if by_u >= self.length || by_v >= self.length {
+            return self.all();
+        }
+        self.all().min(self.up_to(by_u) + self.from(self.length - by_v))
+    }
+
+    /// The same with those from an offset up to another.
+    fn reached_around(&self, by_u: i64, by_v: i64, from: i64, to: i64) -> u32 {
+        let below = self.all() - self.from(from);
+        joined(self.all(), self.up_to(by_u), self.from(self.length - by_v), below, self.up_to(to))
+    }
 }
 
 /// (b) Count augmentation. For each unordered pair of legs and each threshold,
-/// unless no end of the one is in reach of an end of the other: for each report
-/// of the first leg two looked-up numbers (four on one leg) with the overlap
-/// taken off.
+/// unless no end of the one is in reach of an end of the other, or the whole of
+/// the one is in reach of the whole of the other: for each report of the first
+/// leg two looked-up numbers (four on one leg) with the overlap taken off.
 pub fn count_augmentation(network: &Network, table: &NodeTable, sets: &Sets, thresholds: &Thresholds) -> Counts {
     sets.all().iter().map(|set| count_augmentation_set(network, table, set, thresholds)).collect()
 }
@@ -213,27 +235,26 @@ fn count_augmentation_set(network: &Network, table: &NodeTable, set: &LaidOut, t
                 near_second: &stored.near_second[range],
                 length: length_of(network, two),
             };
-            let all = leg.offsets.len() as u32;
             for (cell, &threshold) in row.iter_mut().zip(thresholds.values()) {
                 let threshold = i64::from(threshold);
                 if one != two && nearest > threshold {
                     continue;
                 }
-                let mut count = 0;
-                for &x in set.first_gaps(one) {
-                    let x = i64::from(x);
-                    let to_u = (x + au).min(one_length - x + bu);
-                    let to_v = (x + av).min(one_length - x + bv);
-                    let by_u = leg.up_to(threshold - to_u);
-                    let by_v = leg.from(leg.length - (threshold - to_v));
-                    count += u64::from(if one == two {
-                        let below = all - leg.from(x - threshold);
-                        let not_above = leg.up_to(x + threshold);
-                        joined(all, by_u, by_v, below, not_above) - 1
-                    } else {
-                        all.min(by_u + by_v)
-                    });
-                }
+                let count = if one != two && nearest + one_length + leg.length <= threshold {
+                    set.first_gaps(one).len() as u64 * u64::from(leg.all())
+                } else {
+                    let reached = |&x: &u32| {
+                        let x = i64::from(x);
+                        let by_u = threshold - (x + au).min(one_length - x + bu);
+                        let by_v = threshold - (x + av).min(one_length - x + bv);
+                        u64::from(if one == two {
+                            leg.reached_around(by_u, by_v, x - threshold, x + threshold) - 1
+                        } else {
+                            leg.reached(by_u, by_v)
+                        })
+                    };
+                    set.first_gaps(one).iter().map(reached).sum()
+                };
                 // Two legs count once from either.
                 *cell += if one == two { count } else { 2 * count };
             }

@@ -2,7 +2,7 @@
 -- the last bucket is for what no step admits.
 use mathlib.Core.List.{List}
 use mathlib.Core.Path.{_≡_}
-use Prim.Native.Nat.{ℕ, suc, _+_, _-_, _≤_, _<_, min, _*_}
+use Prim.Native.Nat.{ℕ, suc, _+_, _-_, _*_, _/_, _^_, _≤_, _<_, min}
 use lib.Dec.{leb}
 use lib.ListN.{length, getD}
 use Rattle.model.specs.Counting.{sumBelow}
@@ -12,22 +12,40 @@ use Rattle.model.specs.Limits.{maxThresholds}
 unfoldable pub sumBetween : ℕ → ℕ → (ℕ → ℕ) → ℕ
 sumBetween a b f = sumBelow (b - a) (λ k. f (a + k))
 
--- the steps do not fall, and are thresholds
-pub record Steps (steps : List ℕ) : Type 0 where
-  pub level : (j k : ℕ) → j ≤ k → k < maxThresholds → getD steps j 0 ≤ getD steps k 0
-  pub small : (k : ℕ) → k < maxThresholds → getD steps k 0 < 4294967296
-
--- the thresholds, the greatest repeated behind them
-pub record Spread (ts steps : List ℕ) : Type 0 where
-  pub long : length steps ≡ maxThresholds
-  pub at : (k : ℕ) → k < maxThresholds → getD steps k 0 ≡ getD ts (min k (length ts - 1)) 0
-  pub small : (k : ℕ) → k < maxThresholds → getD steps k 0 < 4294967296
-
 -- the first step that admits d is among the n from place pos on, or comes right behind them
 pub record Bracket (steps : List ℕ) (d pos n : ℕ) : Type 0 where
   pub fits : pos + n ≤ maxThresholds
   pub passed : (k : ℕ) → k < pos → getD steps k 0 < d
   pub ahead : (k : ℕ) → pos + n ≤ k → k < maxThresholds → d ≤ getD steps k 0
+
+-- the steps do not fall
+pub record Level (steps : List ℕ) : Type 0 where
+  pub level : (j k : ℕ) → j ≤ k → k < maxThresholds → getD steps j 0 ≤ getD steps k 0
+
+-- behind the steps a shift, and behind it a cell for each 2 ^ shift metres up to the greatest threshold: only the step that it names
+-- need be looked at
+pub record Celled (steps : List ℕ) : Type 0 where
+  pub in-list : (d : ℕ) → d ≤ getD steps 63 0 → d / 2 ^ getD steps 64 0 < 8192
+  pub names : (d : ℕ) → d ≤ getD steps 63 0 → Bracket steps d (getD steps (65 + d / 2 ^ getD steps 64 0) 0) 1
+
+-- the steps do not fall, and are thresholds; there are cells if the shift is one
+pub record Steps (steps : List ℕ) : Type 0 where
+  pub level : (j k : ℕ) → j ≤ k → k < maxThresholds → getD steps j 0 ≤ getD steps k 0
+  pub small : (k : ℕ) → k < maxThresholds → getD steps k 0 < 4294967296
+  pub celled : getD steps 64 0 < 64 → Celled steps
+
+-- steps with cells, their shift and the greatest of them
+pub record CellsAsked (steps : List ℕ) (shift greatest : ℕ) : Type 0 where
+  pub rising : Steps steps
+  pub shift-is : shift ≡ getD steps 64 0
+  pub shift-to : shift < 64
+  pub greatest-is : greatest ≡ getD steps 63 0
+
+-- the thresholds, the greatest repeated behind them, and cells that are right if the thresholds rise
+pub record Spread (ts steps : List ℕ) : Type 0 where
+  pub at : (k : ℕ) → k < maxThresholds → getD steps k 0 ≡ getD ts (min k (length ts - 1)) 0
+  pub small : (k : ℕ) → k < maxThresholds → getD steps k 0 < 4294967296
+  pub celled : Level steps → getD steps 64 0 < 64 → Celled steps
 
 -- b is the number of steps that do not admit d
 pub record Bucket (steps : List ℕ) (d b : ℕ) : Type 0 where

@@ -1,29 +1,14 @@
 // The counts of a set at every threshold, from its tally.
-ghost use mathlib.Core.Path.{_≡_};
 ghost use Prim.Native.Nat.{_*_, _≤_, _<_};
 ghost use lib.ListN.{length, getD};
 ghost use Rattle.model.specs.Limits.{maxThresholds};
 ghost use Rattle.model.specs.Network.{network};
 ghost use Rattle.range_query.specs.Metres.{metresAt};
 ghost use Rattle.range_query.specs.Runs.{RunsReady, pairsFrom};
-ghost use Rattle.range_query.specs.Tally.{Doubled, Spread, SetCounted, upTo};
-use crate::blocks::earlier;
+ghost use Rattle.range_query.specs.Tally.{Doubled, SetCounted, upTo};
 use crate::runs::set_pairs;
 use crate::tally::BUCKETS;
-use crate::tally::STEPS;
-
-// Spreads the thresholds over all steps: behind the greatest it is repeated.
-pub(crate) fn spread(thresholds: &[u32], steps: &mut [u32; STEPS])
-    requires { ⌜ (1 ≤ length (now thresholds)) × (length (now steps) ≡ maxThresholds) ⌝ }
-    ensures { λ _. ⌜ Spread (now (thresholds .entry)) (now (steps .exit)) ⌝ }
-{
-    let last = thresholds.len() - 1;
-    let mut k = 0;
-    while k < STEPS {
-        steps[k] = thresholds[earlier(k, last)];
-        k += 1;
-    }
-}
+use crate::tally::LADDER;
 
 // Adds the buckets up over rising thresholds; each pair counts twice, once from either event.
 fn write_row(buckets: &[u32; BUCKETS], row: &mut [u32])
@@ -51,7 +36,7 @@ pub(crate) fn set_row(
     bounds: &[u32],
     r: usize,
     q: usize,
-    steps: &[u32; STEPS],
+    steps: &[u32; LADDER],
     row: &mut [u32],
 )
     requires { ⌜ RunsReady (network nodes (now firsts) (now seconds) (now lengths)) (now table) (now edges) (now offsets) (now bounds) (now steps) r q × (length (now row) ≤ maxThresholds) ⌝ }

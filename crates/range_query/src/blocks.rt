@@ -14,15 +14,10 @@ use crate::metres::place_on;
 use crate::metres::to_first;
 use crate::metres::to_second;
 use crate::metres::way;
+use crate::metres::wide;
 use crate::tally::BUCKETS;
-use crate::tally::STEPS;
+use crate::tally::LADDER;
 use crate::tally::row;
-
-fn wide(x: u32) -> u64
-    ensures { λ r. ⌜ r ≡ x ⌝ }
-{
-    x as u64
-}
 
 pub(crate) fn earlier(a: usize, b: usize) -> usize
     ensures { λ r. ⌜ r ≡ min a b ⌝ }
@@ -84,7 +79,7 @@ pub(crate) fn block(
     to: usize,
     other_from: usize,
     other_to: usize,
-    steps: &[u32; STEPS],
+    steps: &[u32; LADDER],
     buckets: &mut [u32; BUCKETS],
 )
     requires { ⌜ Block g (now offsets) from to «other_from» «other_to» × Steps (now steps) × Room (now buckets) ((to - from) * («other_to» - «other_from»)) ⌝ }

@@ -18,13 +18,19 @@ pub struct EdgePair {
     pub same: bool,
 }
 
+pub(crate) fn wide(x: u32) -> u64
+    ensures { λ r. ⌜ r ≡ x ⌝ }
+{
+    x as u64
+}
+
 pub(crate) fn lesser(a: u64, b: u64) -> u64
     ensures { λ r. ⌜ r ≡ min a b ⌝ }
 {
     if b < a { b } else { a }
 }
 
-fn apart(a: u64, b: u64) -> u64
+pub(crate) fn apart(a: u64, b: u64) -> u64
     ensures { λ r. ⌜ r ≡ difference a b ⌝ }
 {
     if a < b { b - a } else { a - b }

@@ -11,8 +11,8 @@ use crate::blocks::block;
 use crate::blocks::edge_pair;
 use crate::blocks::is_apart;
 use crate::tally::BUCKETS;
+use crate::tally::LADDER;
 use crate::tally::LAST_STEP;
-use crate::tally::STEPS;
 
 // An entry of a list as a place.
 pub(crate) fn place(list: &[u32], k: usize) -> usize
@@ -34,7 +34,7 @@ fn meet_runs(
     bounds: &[u32],
     a: usize,
     b: usize,
-    steps: &[u32; STEPS],
+    steps: &[u32; LADDER],
     buckets: &mut [u32; BUCKETS],
 )
     requires { ⌜ RunsReady (network nodes (now firsts) (now seconds) (now lengths)) (now table) (now edges) (now offsets) (now bounds) (now steps) b (suc a) × (b ≤ a) × Room (now buckets) ((getD (now bounds) (suc a) 0 - getD (now bounds) a 0) * (getD (now bounds) (suc b) 0 - getD (now bounds) b 0)) ⌝ }
@@ -65,7 +65,7 @@ fn run_pairs(
     bounds: &[u32],
     r: usize,
     a: usize,
-    steps: &[u32; STEPS],
+    steps: &[u32; LADDER],
     buckets: &mut [u32; BUCKETS],
 )
     requires { ⌜ RunsReady (network nodes (now firsts) (now seconds) (now lengths)) (now table) (now edges) (now offsets) (now bounds) (now steps) r (suc a) × (r ≤ a) × Room (now buckets) ((getD (now bounds) (suc a) 0 - getD (now bounds) a 0) * maxEvents) ⌝ }
@@ -103,7 +103,7 @@ pub(crate) fn set_pairs(
     bounds: &[u32],
     r: usize,
     q: usize,
-    steps: &[u32; STEPS],
+    steps: &[u32; LADDER],
     buckets: &mut [u32; BUCKETS],
 )
     requires { ⌜ RunsReady (network nodes (now firsts) (now seconds) (now lengths)) (now table) (now edges) (now offsets) (now bounds) (now steps) r q × Room (now buckets) (maxEvents * maxEvents) ⌝ }

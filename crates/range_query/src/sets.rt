@@ -2,9 +2,9 @@
 ghost use Rattle.model.specs.Network.{network};
 ghost use Rattle.prepare.specs.Counts.{CountsAnswered};
 use crate::answers::set_row;
-use crate::answers::spread;
+use crate::ladder::spread;
 use crate::runs::place;
-use crate::tally::STEPS;
+use crate::tally::LADDER;
 use model::Check;
 use model::EventSet;
 
@@ -46,7 +46,7 @@ fn count_sets(
     if let Check::Refused(_, _) = verdict {
         return verdict;
     }
-    let mut steps = [0u32; STEPS];
+    let mut steps = [0u32; LADDER];
     spread(thresholds, &mut steps);
     let count = validate::greatest_set(sets) as usize + 1;
     let width = thresholds.len();

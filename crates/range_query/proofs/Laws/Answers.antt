@@ -68,12 +68,12 @@ module _ {ts steps : List ℕ} (w : Spread ts steps) (up : ThresholdsAccepted ts
       go (no n) = omega (arith, thresholds-rise ts up i j (omega arith) l)
 
   -- the steps rise as the thresholds do
+  rising : (j k : ℕ) → j ≤ k → k < maxThresholds → getD steps j 0 ≤ getD steps k 0
+  rising j k h l =
+      rw (w .at j (omega arith), w .at k l) (no-fall (min j (length ts - 1)) (min k (length ts - 1)) (omega arith) (omega (arith, up .some)))
+
   pub spread-steps : Steps steps
-  spread-steps =
-      record {
-        level = λ j k h l. rw (w .at j (omega arith), w .at k l) (no-fall (min j (length ts - 1)) (min k (length ts - 1)) (omega arith) (omega (arith, up .some)));
-        small = w .small;
-      }
+  spread-steps = record { level = rising; small = w .small; celled = w .celled (record { level = rising }) }
 
   -- the first are the thresholds
   pub spread-first : (k : ℕ) → k < length ts → getD steps k 0 ≡ getD ts k 0

@@ -41,3 +41,15 @@ bracket-found steps d pos w = record { fits = omega (arith, w .fits); admits = �
     go : (k : ℕ) → k < 64 → Dec (k < pos) → leb pos k ≡ leb d (getD steps k 0)
     go k h (yes p) = lt-leb pos k p ∙ sym (lt-leb d (getD steps k 0) (w .passed k p))
     go k h (no p) = le-leb pos k (omega arith) ∙ sym (le-leb d (getD steps k 0) (w .ahead k (omega arith) h))
+
+-- no step admits what is beyond the greatest
+pub bucket-beyond : (steps : List ℕ) (d : ℕ) → Steps steps → getD steps 63 0 < d → Bucket steps d 64
+bucket-beyond steps d up h =
+    record {
+      fits = omega arith;
+      admits = λ k l. lt-leb 64 k l ∙ sym (lt-leb d (getD steps k 0) (omega (arith, up .level k 63 (omega arith) (omega arith))));
+    }
+
+-- a number within the greatest, looked for as the lesser of the two
+pub bucket-within : (steps : List ℕ) (d near b : ℕ) → near ≡ d → Bracket steps near b 0 → Bucket steps d b
+bucket-within steps d near b e w = bracket-found steps d b (rw e at w)

@@ -9,8 +9,8 @@ use Rattle.model.specs.Counting.{countBelow, sumBelow}
 use Rattle.range_query.proofs.Laws.Tally.{added-none, row-more, takes-more}
 use Rattle.range_query.specs.Metres.{meet}
 use Rattle.range_query.specs.Tally.{Added}
-use Rattle.range_query.proofs.tally.row.Statement.{statement}
-use Rattle.range_query.proofs.tally.row.Tie as tie
+use Rattle.range_query.proofs.tally.row_by_halves.Statement.{statement}
+use Rattle.range_query.proofs.tally.row_by_halves.Tie as tie
 
 abbrev Inv-loop : tie.InvT-loop
 Inv-loop ys p q other place steps buckets₀ j₀ buckets j = (j ≤ length ys) × Added steps buckets₀ buckets j (λ t. countBelow j (λ i. leb (meet p q other place (getD ys i 0)) t))
@@ -67,8 +67,8 @@ loop-again c = (
 returns : tie.Need-returns Inv-loop μ-loop
 returns c = let e : c .before .loop .j ≡ length (c .before .before .before .args .ys .now) = omega arith in rw e at (c .before .loop .inv .1)
 
-pub row-spec : {M : Type 1} → statement M
-row-spec =
+pub row-by-halves-spec : {M : Type 1} → statement M
+row-by-halves-spec =
     tie.close
     (tie.spec
     Inv-loop

@@ -5,8 +5,8 @@ use native.Mathlib.Omega.{arith}
 use borrow.Author.Needs.{needs}
 use lib.ListN.{getD}
 use Rattle.range_query.proofs.Laws.Answers.{Filled, filled-none, filled-more}
-use Rattle.range_query.proofs.answers.spread.Statement.{statement}
-use Rattle.range_query.proofs.answers.spread.Tie as tie
+use Rattle.range_query.proofs.ladder.spread_steps.Statement.{statement}
+use Rattle.range_query.proofs.ladder.spread_steps.Tie as tie
 
 abbrev Inv-loop : tie.InvT-loop
 Inv-loop thresholds steps₀ last k₀ steps k = (k ≤ 64) × Filled steps₀ steps k (λ j. getD thresholds (min j last) 0)
@@ -54,8 +54,8 @@ returns c =
       small = λ k h. rw (w .at k (omega arith)) (c .before .before .shared-slice-known .given _ .fits);
     }
 
-pub spread-spec : {M : Type 1} → statement M
-spread-spec =
+pub spread-steps-spec : {M : Type 1} → statement M
+spread-steps-spec =
     tie.close
     (tie.spec
     Inv-loop
