@@ -1,6 +1,8 @@
 -- What the functions over two runs keep: cited by inner functions alone.
+use mathlib.Core.Bool.{cond}
 use mathlib.Core.List.{List}
-use Prim.Native.Nat.{ℕ, _≤_}
+use mathlib.Core.Path.{_≡_}
+use Prim.Native.Nat.{ℕ, _≤_, min}
 use lib.Dec.{eqb}
 use lib.ListN.{length, getD}
 use Rattle.model.specs.Counting.{sumBelow}
@@ -10,6 +12,13 @@ use Rattle.prepare.specs.Prepared.{entry}
 use Rattle.count_augmentation.specs.Reach.{farthest, reached, Run}
 use Rattle.count_augmentation.specs.Storing.{OnEdge}
 use Rattle.count_augmentation.specs.declared.pairs.EdgePair.{EdgePair}
+
+-- the entry of the lesser of two ways, and of the least of four; an entry of 0 is none
+unfoldable pub lesserEntry : ℕ → ℕ → ℕ
+lesserEntry a b = cond (eqb a 0) b (cond (eqb b 0) a (min a b))
+
+unfoldable pub leastEntry : ℕ → ℕ → ℕ → ℕ → ℕ
+leastEntry ff fs sf ss = lesserEntry (lesserEntry ff fs) (lesserEntry sf ss)
 
 -- two edges, by their indices, with the table entries between their ends
 unfoldable pub edgePair : Network → List ℕ → ℕ → ℕ → EdgePair
@@ -22,6 +31,8 @@ edgePair net table i j =
       back = entry net table (second net i) (first net j);
       seconds = entry net table (second net i) (second net j);
       same = eqb i j;
+      least =
+          leastEntry (entry net table (first net i) (first net j)) (entry net table (first net i) (second net j)) (entry net table (second net i) (first net j)) (entry net table (second net i) (second net j));
     }
 
 -- how many offsets of the second edge an event at x on the first reaches
@@ -38,3 +49,4 @@ pub record TwoRuns (g : EdgePair) (xs ys near-first near-second : List ℕ) : Ty
   pub on-edge : OnEdge (g .size) xs
   pub few : length xs ≤ maxEvents
   pub run : Run (g .other) ys near-first near-second
+  pub least-is : g .least ≡ leastEntry (g .firsts) (g .onward) (g .back) (g .seconds)

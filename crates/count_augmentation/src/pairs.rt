@@ -6,14 +6,15 @@ ghost use Prim.Native.Nat.{ℕ, pred, _+_, _*_, _≤_, _<_};
 ghost use lib.ListN.{length, getD};
 ghost use Rattle.model.specs.Network.{network};
 ghost use Rattle.prepare.specs.EndTable.{EndTable, TableEntry};
-ghost use Rattle.count_augmentation.specs.Pairs.{edgePair, reachedBy, reachedPairs, TwoRuns};
+ghost use Rattle.count_augmentation.specs.Pairs.{lesserEntry, leastEntry, edgePair, reachedBy, reachedPairs, TwoRuns};
 ghost use Rattle.count_augmentation.specs.Reach.{Run};
 ghost use Rattle.count_augmentation.specs.Storing.{OnEdge};
 use crate::reach::count_reached;
 use crate::reach::reach;
 use crate::reach::reach_by;
 
-// Two edges: their lengths, the table entries from each end of the one to each end of the other, and whether they are one edge.
+// Two edges: their lengths, the table entries from each end of the one to each end of the other, whether they are one edge, and the
+// entry of the least way between them.
 pub struct EdgePair {
     pub size: u32,
     pub other: u32,
@@ -22,6 +23,26 @@ pub struct EdgePair {
     pub back: u32,
     pub seconds: u32,
     pub same: bool,
+    pub least: u32,
+}
+
+// The entry of the lesser of two ways; an entry of 0 is none.
+fn lesser_entry(a: u32, b: u32) -> u32
+    ensures { λ r. ⌜ r ≡ lesserEntry a b ⌝ }
+{
+    if a == 0 {
+        return b;
+    }
+    if b == 0 {
+        return a;
+    }
+    if b < a { b } else { a }
+}
+
+fn least_entry(ff: u32, fs: u32, sf: u32, ss: u32) -> u32
+    ensures { λ r. ⌜ r ≡ leastEntry ff fs sf ss ⌝ }
+{
+    lesser_entry(lesser_entry(ff, fs), lesser_entry(sf, ss))
 }
 
 // The table entry of two nodes.
@@ -50,51 +71,43 @@ pub(crate) fn edge_pair(
     let second = seconds[i];
     let other_first = firsts[j];
     let other_second = seconds[j];
+    let size = lengths[i];
+    let other = lengths[j];
+    let ff = entry(nodes, table, first, other_first);
+    let fs = entry(nodes, table, first, other_second);
+    let sf = entry(nodes, table, second, other_first);
+    let ss = entry(nodes, table, second, other_second);
+    let least = least_entry(ff, fs, sf, ss);
     EdgePair {
-        size: lengths[i],
-        other: lengths[j],
-        firsts: entry(nodes, table, first, other_first),
-        onward: entry(nodes, table, first, other_second),
-        back: entry(nodes, table, second, other_first),
-        seconds: entry(nodes, table, second, other_second),
+        size,
+        other,
+        firsts: ff,
+        onward: fs,
+        back: sf,
+        seconds: ss,
         same: i == j,
+        least,
     }
 }
 
 // No route between two edges is within the threshold, nor within a lower one: their events need not be looked at.
 pub(crate) fn is_beyond(g: EdgePair, threshold: u32) -> bool
+    requires { ⌜ g .least ≡ leastEntry (g .firsts) (g .onward) (g .back) (g .seconds) ⌝ }
     ensures { λ r. ⌜ (r ≡ true → (t : ℕ) → t ≤ threshold → (x : ℕ) (ys : List ℕ) → reachedBy g t x ys ≡ 0) ⌝ }
 {
     if g.same {
         return false;
     }
-    if 0 < reach_by(threshold, 0, g.firsts) {
-        return false;
-    }
-    if 0 < reach_by(threshold, 0, g.onward) {
-        return false;
-    }
-    if 0 < reach_by(threshold, 0, g.back) {
-        return false;
-    }
-    reach_by(threshold, 0, g.seconds) == 0
+    reach_by(threshold, 0, g.least) == 0
 }
 
-// The whole second edge is within the threshold of every place on the first, by one route: all their events are pairs.
+// The whole second edge is within the threshold of every place on the first, by the least way: all their events are pairs.
 fn is_whole(g: EdgePair, threshold: u32) -> bool
+    requires { ⌜ g .least ≡ leastEntry (g .firsts) (g .onward) (g .back) (g .seconds) ⌝ }
     ensures { λ r. ⌜ (r ≡ true → (x : ℕ) (ys : List ℕ) → x ≤ g .size → OnEdge (g .other) ys → length ys ≡ reachedBy g threshold x ys) ⌝ }
 {
     let whole = g.other as u64;
-    if whole < reach_by(threshold, g.size, g.firsts) {
-        return true;
-    }
-    if whole < reach_by(threshold, g.size, g.onward) {
-        return true;
-    }
-    if whole < reach_by(threshold, g.size, g.back) {
-        return true;
-    }
-    whole < reach_by(threshold, g.size, g.seconds)
+    whole < reach_by(threshold, g.size, g.least)
 }
 
 // For each event of a run on the first edge, how many of a run on the second it reaches.

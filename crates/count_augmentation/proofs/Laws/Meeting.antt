@@ -13,7 +13,7 @@ use Rattle.model.specs.Network.{Network, edges, size}
 use Rattle.prepare.proofs.Laws.RunPairs.{run-is, run-codes, part-of-length}
 use Rattle.prepare.proofs.Laws.Totals.{to-greatest}
 use Rattle.prepare.specs.RunPairs.{edgeOf, partOf, runPairs, RunsReady}
-use Rattle.count_augmentation.specs.Pairs.{edgePair, reachedBy, reachedPairs, TwoRuns}
+use Rattle.count_augmentation.specs.Pairs.{leastEntry, edgePair, reachedBy, reachedPairs, TwoRuns}
 use Rattle.count_augmentation.specs.Reach.{reached}
 use Rattle.count_augmentation.specs.Runs.{RunStored}
 use Rattle.count_augmentation.specs.Storing.{OnEdge}
@@ -94,6 +94,7 @@ module _ {net : Network} {table es xs bounds : List ℕ} {r q t : ℕ} (w : Runs
             second-length = part-of-length bounds near-second b (stored .in-second) ∙ long;
             stored = stored .stored _ on;
           };
+          least-is = refl;
         }
 
     -- the same as the code reads it
@@ -109,6 +110,11 @@ module _ {net : Network} {table es xs bounds : List ℕ} {r q t : ℕ} (w : Runs
       runs-met x e =
           rw (g-is, read .edge-is, read .other-edge-is, read .from-is, read .to-is, read .other-from-is, read .other-to-is, add-one a, add-one b) at e
           ∙ pairs-reached
+
+-- the least way of two edges as they are read
+pub least-is : (net : Network) (table : List ℕ) (e f : ℕ) {g : EdgePair} → g ≡ edgePair net table e f → g .least ≡ leastEntry (g .firsts) (g .onward) (g .back) (g .seconds)
+unfolding edgePair
+least-is net table e f g-is = rw g-is refl
 
 -- at every threshold
 module _ {net : Network} {table es xs bounds ts : List ℕ} {a b : ℕ} (w : ReadyAt net table es xs bounds ts b (suc a)) (order : b ≤ a)

@@ -2,14 +2,15 @@
 use mathlib.Core.Bool.{Bool, false}
 use mathlib.Core.List.{List}
 use mathlib.Core.Path.{_≡_, refl, sym, _∙_}
-use Prim.Native.Nat.{ℕ, zero, suc, _+_, _-_, _*_, _≤_, _<_}
+use Prim.Native.Nat.{ℕ, zero, suc, _+_, _-_, _*_, _≤_, _<_, min, max}
+use native.Mathlib.Decide.{decLt}
 use native.Mathlib.Nat.{suc-mul}
 use native.Mathlib.Omega.{arith}
 use lib.Dec.{eqb·suc-zero}
 use lib.ListN.{length, getD}
 use Rattle.model.proofs.Laws.Counting.{count-at-most, sum-below-zero, sum-below-cong}
 use Rattle.model.specs.Counting.{sumBelow}
-use Rattle.count_augmentation.specs.Pairs.{reachedBy, reachedPairs}
+use Rattle.count_augmentation.specs.Pairs.{lesserEntry, leastEntry, reachedBy, reachedPairs}
 use Rattle.count_augmentation.specs.Reach.{reachOf, farthest, reached}
 use Rattle.count_augmentation.specs.Storing.{OnEdge}
 use Rattle.count_augmentation.specs.declared.pairs.EdgePair.{EdgePair}
@@ -41,6 +42,31 @@ unfolding reachOf
 reach-nearer t a a′ zero h = omega arith
 reach-nearer t a a′ (suc entry) h = rw (eqb·suc-zero entry) (omega arith)
 
+-- the lesser of a way and none, and of two
+lesser-none : (x : ℕ) → lesserEntry (suc x) 0 ≡ suc x
+unfolding lesserEntry
+lesser-none x = simp (eqb·suc-zero x)
+
+lesser-two : (x y : ℕ) → lesserEntry (suc x) (suc y) ≡ suc (min x y)
+unfolding lesserEntry
+lesser-two x y = simp (eqb·suc-zero x, eqb·suc-zero y) (omega arith)
+
+reach-some : (t a x : ℕ) → reachOf t a (suc x) ≡ suc t - (a + x)
+unfolding reachOf
+reach-some t a x = simp (eqb·suc-zero x)
+
+-- by the lesser of two ways one reaches as far as by either
+reach-either : (t a x y : ℕ) → reachOf t a (lesserEntry x y) ≡ max (reachOf t a x) (reachOf t a y)
+reach-either t a zero y = unfold reachOf lesserEntry in omega arith
+reach-either t a (suc x) zero = rw (lesser-none x) (unfold reachOf in omega arith)
+reach-either t a (suc x) (suc y) =
+    rw (lesser-two x y, reach-some t a (min x y), reach-some t a x, reach-some t a y) (omega arith)
+
+reach-least : (t a ff fs sf ss : ℕ) → reachOf t a (leastEntry ff fs sf ss) ≡ max (max (reachOf t a ff) (reachOf t a fs)) (max (reachOf t a sf) (reachOf t a ss))
+unfolding leastEntry
+reach-least t a ff fs sf ss =
+    reach-either t a (lesserEntry ff fs) (lesserEntry sf ss) ∙ rw (reach-either t a ff fs, reach-either t a sf ss) refl
+
 -- as many times one number
 sum-same : (n m : ℕ) → sumBelow n (λ i. m) ≡ n * m
 unfolding sumBelow
@@ -56,27 +82,35 @@ module _ (g : EdgePair) (t : ℕ) where
       rw (other, farthest-none t (g .size) x (g .firsts) (g .back) (lower _ ff) (lower _ sf), farthest-none t (g .size) x (g .onward) (g .seconds) (lower _ fs) (lower _ ss))
       (sym (nothing-reached (g .other) ys 0 0 t x refl refl))
 
-  -- the whole edge is within the threshold of the farthest offset by one route
+  -- the same by the least way
+  pub none-by-least : (t′ : ℕ) → t ≤ t′ → g .same ≡ false → g .least ≡ leastEntry (g .firsts) (g .onward) (g .back) (g .seconds) → reachOf t′ 0 (g .least) ≡ 0 → (x : ℕ) (ys : List ℕ) → reachedBy g t x ys ≡ 0
+  none-by-least t′ h other least e =
+      let most = reach-least t′ 0 (g .firsts) (g .onward) (g .back) (g .seconds) in
+      let none : reachOf t′ 0 (leastEntry (g .firsts) (g .onward) (g .back) (g .seconds)) ≡ 0 = rw least at e in
+      none-reached t′ h other (omega arith) (omega arith) (omega arith) (omega arith)
+
+  -- the whole edge is within the threshold of the farthest offset, from its first end or from its second
   module _ (x : ℕ) (ys : List ℕ) (h : x ≤ g .size) (on : OnEdge (g .other) ys) where
-    pub whole-by-firsts : g .other < reachOf t (g .size) (g .firsts) → length ys ≡ reachedBy g t x ys
+    whole-to-first : g .other < max (reachOf t (g .size) (g .firsts)) (reachOf t (g .size) (g .back)) → length ys ≡ reachedBy g t x ys
     unfolding reachedBy farthest
-    whole-by-firsts l =
-        all-from-first (g .other) ys on _ _ (g .same) t x (omega (arith, reach-nearer t x (g .size) (g .firsts) h))
+    whole-to-first l =
+        all-from-first (g .other) ys on _ _ (g .same) t x (omega (arith, reach-nearer t x (g .size) (g .firsts) h, reach-nearer t (g .size - x) (g .size) (g .back) (omega arith)))
 
-    pub whole-by-onward : g .other < reachOf t (g .size) (g .onward) → length ys ≡ reachedBy g t x ys
+    whole-to-second : g .other < max (reachOf t (g .size) (g .onward)) (reachOf t (g .size) (g .seconds)) → length ys ≡ reachedBy g t x ys
     unfolding reachedBy farthest
-    whole-by-onward l =
-        all-from-second (g .other) ys on _ _ (g .same) t x (omega (arith, reach-nearer t x (g .size) (g .onward) h))
+    whole-to-second l =
+        all-from-second (g .other) ys on _ _ (g .same) t x (omega (arith, reach-nearer t x (g .size) (g .onward) h, reach-nearer t (g .size - x) (g .size) (g .seconds) (omega arith)))
 
-    pub whole-by-back : g .other < reachOf t (g .size) (g .back) → length ys ≡ reachedBy g t x ys
-    unfolding reachedBy farthest
-    whole-by-back l =
-        all-from-first (g .other) ys on _ _ (g .same) t x (omega (arith, reach-nearer t (g .size - x) (g .size) (g .back) (omega arith)))
+    -- by the least way
+    pub whole-by-least : g .least ≡ leastEntry (g .firsts) (g .onward) (g .back) (g .seconds) → g .other < reachOf t (g .size) (g .least) → length ys ≡ reachedBy g t x ys
+    whole-by-least least l = go (decLt (g .other) (max (reachOf t (g .size) (g .firsts)) (reachOf t (g .size) (g .back))))
+      where
+        most : g .other < max (max (reachOf t (g .size) (g .firsts)) (reachOf t (g .size) (g .onward))) (max (reachOf t (g .size) (g .back)) (reachOf t (g .size) (g .seconds)))
+        most = rw (least, reach-least t (g .size) (g .firsts) (g .onward) (g .back) (g .seconds)) at l
 
-    pub whole-by-seconds : g .other < reachOf t (g .size) (g .seconds) → length ys ≡ reachedBy g t x ys
-    unfolding reachedBy farthest
-    whole-by-seconds l =
-        all-from-second (g .other) ys on _ _ (g .same) t x (omega (arith, reach-nearer t (g .size - x) (g .size) (g .seconds) (omega arith)))
+        go : Dec (g .other < max (reachOf t (g .size) (g .firsts)) (reachOf t (g .size) (g .back))) → length ys ≡ reachedBy g t x ys
+        go (yes p) = whole-to-first p
+        go (no p) = whole-to-second (omega (arith, most))
 
   -- every two events of two runs
   pub all-pairs : (xs ys : List ℕ) → ((x : ℕ) → x ≤ g .size → length ys ≡ reachedBy g t x ys) → OnEdge (g .size) xs → length xs * length ys ≡ reachedPairs g t xs ys
@@ -95,5 +129,6 @@ module _ (g : EdgePair) (t : ℕ) where
   no-pairs xs ys none = sym (sum-below-zero (length xs) _ (λ i h. none (getD xs i 0) ys))
 
 -- two edges with equal entries
-pub same-pair : {p q ff fs sf ss ff′ fs′ sf′ ss′ : ℕ} {same : Bool} → ff ≡ ff′ → fs ≡ fs′ → sf ≡ sf′ → ss ≡ ss′ → _≡_ {A = EdgePair} (record { size = p; other = q; firsts = ff; onward = fs; back = sf; seconds = ss; same = same }) (record { size = p; other = q; firsts = ff′; onward = fs′; back = sf′; seconds = ss′; same = same })
-same-pair {p} {q} {same = same} a b c d = λ k. record { size = p; other = q; firsts = a k; onward = b k; back = c k; seconds = d k; same = same }
+pub same-pair : {p q ff fs sf ss ff′ fs′ sf′ ss′ least : ℕ} {same : Bool} → ff ≡ ff′ → fs ≡ fs′ → sf ≡ sf′ → ss ≡ ss′ → least ≡ leastEntry ff fs sf ss → _≡_ {A = EdgePair} (record { size = p; other = q; firsts = ff; onward = fs; back = sf; seconds = ss; same = same; least = least }) (record { size = p; other = q; firsts = ff′; onward = fs′; back = sf′; seconds = ss′; same = same; least = leastEntry ff′ fs′ sf′ ss′ })
+same-pair {p} {q} {same = same} a b c d e =
+    rw (e, a, b, c, d) refl

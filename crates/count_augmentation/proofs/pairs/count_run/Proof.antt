@@ -20,7 +20,7 @@ abbrev μ-loop : tie.MeasureT-loop
 μ-loop g threshold from-offsets offsets near-first near-second total₀ i₀ total i = length from-offsets - i
 
 is-beyond-requires : tie.Need-is-beyond-requires Inv-loop μ-loop
-is-beyond-requires c κs = search needs
+is-beyond-requires c κs = c .before .before .before .before .pre .least-is
 
 returns : tie.Need-returns Inv-loop μ-loop
 returns c = (no-pairs _ _ _ _ (c .before .is-beyond .ensures (c .if1 .taken) _ (omega arith)), omega arith)
@@ -30,7 +30,7 @@ product-small : (c : tie.Start Inv-loop μ-loop) → length (c .args .from-offse
 product-small c = omega (arith, mul-le-mul (c .pre .few) (c .pre .run .few))
 
 is-whole-requires : tie.Need-is-whole-requires Inv-loop μ-loop
-is-whole-requires c κs = search needs
+is-whole-requires c κs = c .before .before .before .before .before .before .pre .least-is
 
 mul-result : tie.Need-mul-result Inv-loop μ-loop
 mul-result c = omega (arith, product-small (c .before .before .before .before .before .before .before .before))

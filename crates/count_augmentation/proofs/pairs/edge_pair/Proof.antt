@@ -1,8 +1,8 @@
--- Lengths and entries of the two edges.
-use Rattle.prepare.specs.Prepared.{entry}
+-- Lengths and entries of the two edges, and the least of the entries.
+use Rattle.count_augmentation.proofs.Laws.Pairs.{same-pair}
 use Rattle.count_augmentation.specs.Pairs.{edgePair}
 use Rattle.prepare.proofs.Laws.Square.{held-entry}
-use Rattle.count_augmentation.proofs.Laws.Pairs.{same-pair}
+use Rattle.prepare.specs.Prepared.{entry}
 use borrow.Author.Needs.{needs}
 use Rattle.count_augmentation.proofs.pairs.edge_pair.Statement.{statement}
 use Rattle.count_augmentation.proofs.pairs.edge_pair.Tie as tie
@@ -31,41 +31,36 @@ mul-other-second c = search needs
 shared-slice-read-other-second : tie.Need-shared-slice-read-other-second
 shared-slice-read-other-second c = search needs
 
-mul-t12 : tie.Need-mul-t12
-mul-t12 c = search needs
+mul-size : tie.Need-mul-size
+mul-size c = search needs
 
-shared-slice-read-t14 : tie.Need-shared-slice-read-t14
-shared-slice-read-t14 c = search needs
+shared-slice-read-size : tie.Need-shared-slice-read-size
+shared-slice-read-size c = search needs
 
-mul-t19 : tie.Need-mul-t19
-mul-t19 c = search needs
+mul-other : tie.Need-mul-other
+mul-other c = search needs
 
-shared-slice-read-t21 : tie.Need-shared-slice-read-t21
-shared-slice-read-t21 c = search needs
+shared-slice-read-other : tie.Need-shared-slice-read-other
+shared-slice-read-other c = search needs
 
 entry-requires : tie.Need-entry-requires
-entry-requires c κs =
-    let start = c .before .before .before .before .before .before .before .before .before .before in
-    held-entry (start .pre .0) (start .pre .0 .ends .first-is (start .args .i) (start .pre .1 .0)) (start .pre .0 .ends .first-is (start .args .j) (start .pre .1 .1))
+entry-requires c κs = held-entry (c .before .before .before .before .before .before .before .before .before .before .pre .0) (c .before .before .before .before .before .before .before .before .before .before .pre .0 .ends .first-is (c .before .before .before .before .before .before .before .before .before .before .args .i) (c .before .before .before .before .before .before .before .before .before .before .pre .1 .0)) (c .before .before .before .before .before .before .before .before .before .before .pre .0 .ends .first-is (c .before .before .before .before .before .before .before .before .before .before .args .j) (c .before .before .before .before .before .before .before .before .before .before .pre .1 .1))
 
 entry-requires-2 : tie.Need-entry-requires-2
-entry-requires-2 c κs =
-    let start = c .before .before .before .before .before .before .before .before .before .before .before in
-    held-entry (start .pre .0) (start .pre .0 .ends .first-is (start .args .i) (start .pre .1 .0)) (start .pre .0 .ends .second-is (start .args .j) (start .pre .1 .1))
+entry-requires-2 c κs = held-entry (c .before .before .before .before .before .before .before .before .before .before .before .pre .0) (c .before .before .before .before .before .before .before .before .before .before .before .pre .0 .ends .first-is (c .before .before .before .before .before .before .before .before .before .before .before .args .i) (c .before .before .before .before .before .before .before .before .before .before .before .pre .1 .0)) (c .before .before .before .before .before .before .before .before .before .before .before .pre .0 .ends .second-is (c .before .before .before .before .before .before .before .before .before .before .before .args .j) (c .before .before .before .before .before .before .before .before .before .before .before .pre .1 .1))
 
 entry-requires-3 : tie.Need-entry-requires-3
-entry-requires-3 c κs =
-    let start = c .before .before .before .before .before .before .before .before .before .before .before .before in
-    held-entry (start .pre .0) (start .pre .0 .ends .second-is (start .args .i) (start .pre .1 .0)) (start .pre .0 .ends .first-is (start .args .j) (start .pre .1 .1))
+entry-requires-3 c κs = held-entry (c .before .before .before .before .before .before .before .before .before .before .before .before .pre .0) (c .before .before .before .before .before .before .before .before .before .before .before .before .pre .0 .ends .second-is (c .before .before .before .before .before .before .before .before .before .before .before .before .args .i) (c .before .before .before .before .before .before .before .before .before .before .before .before .pre .1 .0)) (c .before .before .before .before .before .before .before .before .before .before .before .before .pre .0 .ends .first-is (c .before .before .before .before .before .before .before .before .before .before .before .before .args .j) (c .before .before .before .before .before .before .before .before .before .before .before .before .pre .1 .1))
 
 entry-requires-4 : tie.Need-entry-requires-4
-entry-requires-4 c κs =
-    let start = c .before .before .before .before .before .before .before .before .before .before .before .before .before in
-    held-entry (start .pre .0) (start .pre .0 .ends .second-is (start .args .i) (start .pre .1 .0)) (start .pre .0 .ends .second-is (start .args .j) (start .pre .1 .1))
+entry-requires-4 c κs = held-entry (c .before .before .before .before .before .before .before .before .before .before .before .before .before .pre .0) (c .before .before .before .before .before .before .before .before .before .before .before .before .before .pre .0 .ends .second-is (c .before .before .before .before .before .before .before .before .before .before .before .before .before .args .i) (c .before .before .before .before .before .before .before .before .before .before .before .before .before .pre .1 .0)) (c .before .before .before .before .before .before .before .before .before .before .before .before .before .pre .0 .ends .second-is (c .before .before .before .before .before .before .before .before .before .before .before .before .before .args .j) (c .before .before .before .before .before .before .before .before .before .before .before .before .before .pre .1 .1))
+
+least-entry-requires : tie.Need-least-entry-requires
+least-entry-requires c κs = search needs
 
 returns : tie.Need-returns
 unfolding edgePair entry
-returns c = same-pair (c .before .before .before .entry .ensures) (c .before .before .entry2 .ensures) (c .before .entry3 .ensures) (c .entry4 .ensures)
+returns c = same-pair (c .before .before .before .before .entry .ensures) (c .before .before .before .entry2 .ensures) (c .before .before .entry3 .ensures) (c .before .entry4 .ensures) (c .least-entry .ensures)
 
 pub edge-pair-spec : {M : Type 1} → statement M
 edge-pair-spec =
@@ -79,12 +74,13 @@ edge-pair-spec =
     shared-slice-read-other-first
     mul-other-second
     shared-slice-read-other-second
-    mul-t12
-    shared-slice-read-t14
-    mul-t19
-    shared-slice-read-t21
+    mul-size
+    shared-slice-read-size
+    mul-other
+    shared-slice-read-other
     entry-requires
     entry-requires-2
     entry-requires-3
     entry-requires-4
+    least-entry-requires
     returns)

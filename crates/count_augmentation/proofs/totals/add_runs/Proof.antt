@@ -6,7 +6,7 @@ use lib.ListN.{length, getD}
 use Rattle.model.specs.Network.{network}
 use Rattle.prepare.specs.RunPairs.{RunsReady}
 use Rattle.prepare.proofs.Laws.RunPairs.{ready-table}
-use Rattle.count_augmentation.proofs.Laws.Meeting.{RunsRead, Within, within-list, in-offsets, edge-listed, edge-named, runs-asked, runs-added, runs-apart}
+use Rattle.count_augmentation.proofs.Laws.Meeting.{least-is, RunsRead, Within, within-list, in-offsets, edge-listed, edge-named, runs-asked, runs-added, runs-apart}
 use borrow.Author.Needs.{needs}
 use Rattle.count_augmentation.proofs.totals.add_runs.Statement.{statement}
 use Rattle.count_augmentation.proofs.totals.add_runs.Tie as tie
@@ -76,7 +76,7 @@ read c =
     }
 
 is-beyond-requires : tie.Need-is-beyond-requires
-is-beyond-requires c κs = search needs
+is-beyond-requires c κs = least-is _ _ _ _ (c .before .edge-pair .ensures)
 
 returns : tie.Need-returns
 returns c =
