@@ -1,22 +1,29 @@
 // The stored numbers looked up by binary search.
+ghost use mathlib.Core.Bool.{cond};
 ghost use mathlib.Core.Path.{_≡_};
+ghost use lib.Dec.{ltb};
 ghost use lib.ListN.{length, getD};
 ghost use Rattle.count_augmentation.specs.Storing.{Rising, Parted, storedBefore, placeOf};
 
-// The first place whose offset is not below a limit, or the length.
+// So many places are passed if the offset at the last of them is below a limit.
+fn passed(offset: u32, limit: u64, places: usize) -> usize
+    ensures { λ r. ⌜ r ≡ cond (ltb offset limit) places 0 ⌝ }
+{
+    if (offset as u64) < limit { places } else { 0 }
+}
+
+// The first place whose offset is not below a limit, or the length: the places in question halve, with no branch on what is found.
 fn place_of(offsets: &[u32], limit: u64) -> usize
     requires { ⌜ Rising (now offsets) ⌝ }
     ensures { λ r. ⌜ Parted (now (offsets .entry)) limit r ⌝ }
 {
     let mut low = 0;
-    let mut high = offsets.len();
-    while low < high {
-        let middle = low + (high - low) / 2;
-        if (offsets[middle] as u64) < limit {
-            low = middle + 1;
-        } else {
-            high = middle;
-        }
+    let mut left = offsets.len();
+    while 0 < left {
+        let rest = left / 2;
+        let half = left - rest;
+        low += passed(offsets[low + half - 1], limit, half);
+        left = rest;
     }
     low
 }

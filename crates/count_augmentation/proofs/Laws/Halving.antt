@@ -1,7 +1,12 @@
 -- Binary search over rising offsets: how the loop goes.
+use mathlib.Core.Bool.{cond}
 use mathlib.Core.List.{List}
-use Prim.Native.Nat.{ℕ, _+_, _≤_, _<_}
+use mathlib.Core.Path.{_≡_, _∙_}
+use Prim.Native.Nat.{ℕ, _+_, _-_, _/_, _≤_, _<_}
+use native.Mathlib.Decide.{decLt}
 use native.Mathlib.Omega.{arith}
+use borrow.Author.Tests.{lt-ltb, le-ltb}
+use lib.Dec.{ltb}
 use lib.ListN.{length, getD}
 use Rattle.count_augmentation.specs.Storing.{Rising, Parted}
 
@@ -13,7 +18,7 @@ pub record Bracket (xs : List ℕ) (limit low high : ℕ) : Type 0 where
   pub after : (k : ℕ) → high ≤ k → k < length xs → limit ≤ getD xs k 0
 
 module _ (xs : List ℕ) (limit : ℕ) where
-  pub bracket-begins : Bracket xs limit 0 (length xs)
+  pub bracket-begins : Bracket xs limit 0 (0 + length xs)
   bracket-begins =
       record {
         in-order = omega arith;
@@ -22,26 +27,27 @@ module _ (xs : List ℕ) (limit : ℕ) where
         after = λ k l m. absurd (omega arith);
       }
 
-  module _ (rising : Rising xs) (low high middle : ℕ) (b : Bracket xs limit low high) (from : low ≤ middle) (to : middle < high) where
-    -- the place is behind the middle
-    pub bracket-up : getD xs middle 0 < limit → Bracket xs limit (middle + 1) high
-    bracket-up h =
-        record {
-          in-order = omega arith;
-          within = b .within;
-          before = λ k l. omega (arith, rising .up k middle (omega arith) (omega (arith, b .within)));
-          after = b .after;
-        }
-
-    -- it is not
-    pub bracket-down : limit ≤ getD xs middle 0 → Bracket xs limit low middle
-    bracket-down h =
-        record {
-          in-order = from;
-          within = omega (arith, b .within);
-          before = b .before;
-          after = λ k l m. omega (arith, rising .up middle k l m);
-        }
+  -- the last of the first half of the places passed or not
+  pub bracket-half : Rising xs → (low left n : ℕ) → 1 ≤ left → Bracket xs limit low (low + left) → n ≡ cond (ltb (getD xs (low + (left - left / 2) - 1) 0) limit) (left - left / 2) 0 → Bracket xs limit (low + n) (low + n + left / 2)
+  bracket-half rising low left n some b e = go (decLt (getD xs (low + (left - left / 2) - 1) 0) limit)
+    where
+      go : Dec (getD xs (low + (left - left / 2) - 1) 0 < limit) → Bracket xs limit (low + n) (low + n + left / 2)
+      go (yes h) =
+          let all : n ≡ left - left / 2 = e ∙ simp (lt-ltb (getD xs (low + (left - left / 2) - 1) 0) limit h) in
+          record {
+            in-order = omega arith;
+            within = omega (arith, b .within);
+            before = λ k l. omega (arith, rising .up k (low + (left - left / 2) - 1) (omega arith) (omega (arith, b .within)));
+            after = λ k l m. b .after k (omega arith) m;
+          }
+      go (no h) =
+          let none : n ≡ 0 = e ∙ simp (le-ltb (getD xs (low + (left - left / 2) - 1) 0) limit (omega arith)) in
+          record {
+            in-order = omega arith;
+            within = omega (arith, b .within);
+            before = λ k l. b .before k (omega arith);
+            after = λ k l m. omega (arith, rising .up (low + (left - left / 2) - 1) k (omega arith) m);
+          }
 
   pub bracket-ends : (low high : ℕ) → Bracket xs limit low high → high ≤ low → Parted xs limit low
   bracket-ends low high b h =

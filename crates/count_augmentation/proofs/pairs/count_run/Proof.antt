@@ -8,7 +8,6 @@ use Rattle.model.specs.Counting.{sumBelow}
 use Rattle.count_augmentation.specs.Pairs.{reachedBy, reachedPairs}
 use Rattle.model.proofs.Laws.Counting.{sum-next}
 use Rattle.count_augmentation.proofs.Laws.Pairs.{no-pairs, all-pairs}
-use borrow.Author.Needs.{needs}
 use Rattle.count_augmentation.proofs.pairs.count_run.Statement.{statement}
 use Rattle.count_augmentation.proofs.pairs.count_run.Tie as tie
 

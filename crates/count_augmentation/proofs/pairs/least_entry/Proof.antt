@@ -1,7 +1,7 @@
 -- The lesser of the lesser of each two.
 use Rattle.count_augmentation.specs.Pairs.{lesserEntry, leastEntry}
 use borrow.Author.Needs.{needs}
-use mathlib.Core.Path.{_≡_, _∙_, ap₂}
+use mathlib.Core.Path.{_∙_, ap₂}
 use Rattle.count_augmentation.proofs.pairs.least_entry.Statement.{statement}
 use Rattle.count_augmentation.proofs.pairs.least_entry.Tie as tie
 

@@ -1,6 +1,5 @@
 -- Of two entries that are not 0 the lesser.
 use Rattle.count_augmentation.specs.Pairs.{lesserEntry}
-use borrow.Author.Needs.{needs}
 use borrow.Author.Tests.{eq-eqb, ne-eqb}
 use native.Mathlib.Omega.{arith}
 use Rattle.count_augmentation.proofs.pairs.lesser_entry.Statement.{statement}

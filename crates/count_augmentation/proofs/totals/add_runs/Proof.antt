@@ -7,7 +7,6 @@ use Rattle.model.specs.Network.{network}
 use Rattle.prepare.specs.RunPairs.{RunsReady}
 use Rattle.prepare.proofs.Laws.RunPairs.{ready-table}
 use Rattle.count_augmentation.proofs.Laws.Meeting.{least-is, RunsRead, Within, within-list, in-offsets, edge-listed, edge-named, runs-asked, runs-added, runs-apart}
-use borrow.Author.Needs.{needs}
 use Rattle.count_augmentation.proofs.totals.add_runs.Statement.{statement}
 use Rattle.count_augmentation.proofs.totals.add_runs.Tie as tie
 

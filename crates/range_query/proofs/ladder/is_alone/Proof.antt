@@ -3,7 +3,6 @@ use Rattle.range_query.proofs.Laws.Ladder.{alone-last, alone-next, alon
 use borrow.Author.Needs.{needs}
 use borrow.Author.Tests.{leb-true}
 use mathlib.Core.Path.{refl}
-use native.Mathlib.Omega.{arith}
 use Rattle.range_query.proofs.ladder.is_alone.Statement.{statement}
 use Rattle.range_query.proofs.ladder.is_alone.Tie as tie
 

@@ -1,5 +1,4 @@
 -- A number below 64 is the shift, and is told only if the cells were filled.
-use borrow.Author.Needs.{needs}
 use mathlib.Core.Path.{refl}
 use native.Mathlib.Omega.{arith}
 use Rattle.range_query.proofs.ladder.shift_or_none.Statement.{statement}

@@ -4,7 +4,7 @@ use Rattle.range_query.proofs.Laws.Steps.{bucket-beyond, bucket-within}
 use Rattle.range_query.specs.Tally.{Bracket}
 use borrow.Author.Needs.{needs}
 use lib.ListN.{getD}
-use mathlib.Core.Path.{_≡_, sym, ap, _∙_, subst}
+use mathlib.Core.Path.{sym, ap, _∙_, subst}
 use native.Mathlib.Omega.{arith}
 use Rattle.range_query.proofs.tally.bucket_by_cell.Statement.{statement}
 use Rattle.range_query.proofs.tally.bucket_by_cell.Tie as tie
