@@ -1,7 +1,7 @@
 -- What the functions that make the stored numbers and look them up keep: cited by inner functions alone.
 use mathlib.Core.List.{List}
 use mathlib.Core.Path.{_≡_}
-use Prim.Native.Nat.{ℕ, zero, suc, _≤_, _<_}
+use Prim.Native.Nat.{ℕ, zero, suc, _+_, _≤_, _<_}
 use lib.Dec.{leb, ltb}
 use lib.ListN.{length, getD}
 use Rattle.model.specs.Counting.{countIf}
@@ -43,6 +43,12 @@ storedBefore near (suc k) = getD near k 0
 -- the place at which rising offsets are parted at a limit: so many are below it
 unfoldable pub placeOf : List ℕ → ℕ → ℕ
 placeOf xs limit = countIf (λ y. ltb y limit) xs
+
+-- the place that parts rising offsets at a limit is among so many from low on, or right behind them
+pub record Bracket (xs : List ℕ) (limit low left : ℕ) : Type 0 where
+  pub within : low + left ≤ length xs
+  pub before : (k : ℕ) → k < low → getD xs k 0 < limit
+  pub after : (k : ℕ) → low + left ≤ k → k < length xs → limit ≤ getD xs k 0
 
 -- a place parts rising offsets at a limit
 pub record Parted (xs : List ℕ) (limit place : ℕ) : Type 0 where

@@ -1,9 +1,10 @@
 // The stored numbers looked up by binary search.
 ghost use mathlib.Core.Bool.{cond};
 ghost use mathlib.Core.Path.{_≡_};
+ghost use Prim.Native.Nat.{_/_, _≤_};
 ghost use lib.Dec.{ltb};
 ghost use lib.ListN.{length, getD};
-ghost use Rattle.count_augmentation.specs.Storing.{Rising, Parted, storedBefore, placeOf};
+ghost use Rattle.count_augmentation.specs.Storing.{Rising, Bracket, Parted, storedBefore, placeOf};
 
 // So many places are passed if the offset at the last of them is below a limit.
 fn passed(offset: u32, limit: u64, places: usize) -> usize
@@ -12,20 +13,50 @@ fn passed(offset: u32, limit: u64, places: usize) -> usize
     if (offset as u64) < limit { places } else { 0 }
 }
 
-// The first place whose offset is not below a limit, or the length: the places in question halve, with no branch on what is found.
+// Halves the places among which the first whose offset is not below a limit is looked for.
+fn halve(offsets: &[u32], limit: u64, low: usize, left: usize) -> usize
+    requires { ⌜ Rising (now offsets) × Bracket (now offsets) limit low left × (1 ≤ left) ⌝ }
+    ensures { λ r. ⌜ Bracket (now (offsets .entry)) limit r (left / 2) ⌝ }
+{
+    let half = left - left / 2;
+    low + passed(offsets[low + half - 1], limit, half)
+}
+
+// That place, of which at most so many are left to look at as four halvings take. No loop: it compiles with no branch on what is found.
+fn place_among(offsets: &[u32], limit: u64, low: usize, left: usize) -> usize
+    requires { ⌜ Rising (now offsets) × Bracket (now offsets) limit low left × (left ≤ 15) ⌝ }
+    ensures { λ r. ⌜ Parted (now (offsets .entry)) limit r ⌝ }
+{
+    if left == 0 {
+        return low;
+    }
+    let by_8 = halve(offsets, limit, low, left);
+    if left / 2 == 0 {
+        return by_8;
+    }
+    let by_4 = halve(offsets, limit, by_8, left / 2);
+    if left / 4 == 0 {
+        return by_4;
+    }
+    let by_2 = halve(offsets, limit, by_4, left / 4);
+    if left / 8 == 0 {
+        return by_2;
+    }
+    halve(offsets, limit, by_2, left / 8)
+}
+
+// The first place whose offset is not below a limit, or the length.
 fn place_of(offsets: &[u32], limit: u64) -> usize
     requires { ⌜ Rising (now offsets) ⌝ }
     ensures { λ r. ⌜ Parted (now (offsets .entry)) limit r ⌝ }
 {
     let mut low = 0;
     let mut left = offsets.len();
-    while 0 < left {
-        let rest = left / 2;
-        let half = left - rest;
-        low += passed(offsets[low + half - 1], limit, half);
-        left = rest;
+    while 15 < left {
+        low = halve(offsets, limit, low, left);
+        left = left / 2;
     }
-    low
+    place_among(offsets, limit, low, left)
 }
 
 // What is stored for the first end with the last offset below a limit, 0 if there is none: read, whatever the list holds.
