@@ -1,20 +1,20 @@
 -- Following the arcs of the node just picked, one after the other.
 use mathlib.Core.List.{List}
-use mathlib.Core.Logic.{_⊎_, inl, inr, _≢_}
-use mathlib.Core.Path.{_≡_, _∙_, refl, sym, ap, subst}
-use Prim.Native.Nat.{ℕ, zero, suc, pred, _+_, _*_, _/_, _≤_, _<_}
+use mathlib.Core.Logic.{inl, inr}
+use mathlib.Core.Path.{_≡_, _∙_, refl, sym, subst}
+use Prim.Native.Nat.{ℕ, suc, pred, _+_, _*_, _/_, _≤_, _<_}
 use native.Mathlib.Decide.{ℕ-discrete, decLt}
 use native.Mathlib.Omega.{arith}
 use lib.ListN.{length, getD, set}
-use lib.Seq.{getD-set-same, getD-set-other}
+use lib.Seq.{getD-set-same}
 use Rattle.model.specs.Limits.{maxLength}
-use Rattle.model.specs.Network.{Network, IsNode, EndsAreNodes, edges, first, second, size}
+use Rattle.model.specs.Network.{Network, IsNode, EndsAreNodes, edges, size}
 use Rattle.model.specs.Walk.{Walk, onward, Joins, forward, backward}
 use Rattle.distance.specs.Arcs.{tail, lastArc}
-use Rattle.distance.specs.Search.{Followed, Settled, State, Status, waiting, settled, followed, Offered, entered, lowered, passed, Following}
+use Rattle.distance.specs.Search.{InFront, Followed, Settled, State, Status, waiting, settled, followed, Offered, entered, lowered, passed, Following}
 use Rattle.distance.proofs.Lists.{AfterStore, set-cases}
-use Rattle.distance.proofs.Ways.{arc-joins, last-skips, last-leads}
-use Rattle.distance.proofs.Offer.{after-lowered, after-entered}
+use Rattle.distance.proofs.Ways.{arc-joins, last-skips}
+use Rattle.distance.proofs.Offer.{not-settled, after-lowered, after-entered}
 
 -- one arc more has been followed
 one-more-arc : (net : Network) (source bound : ℕ) (dist : List ℕ) (v a : ℕ) → Settled net source bound dist v (suc a) → Followed net dist v a → Settled net source bound dist v a
@@ -56,39 +56,55 @@ module _ (net : Network) (ends : EndsAreNodes net) (source bound : ℕ) (dist fr
       go (inl (q, same)) = record { reached = omega (arith, there, f .so-far .reached); near = omega (arith, there, f .so-far .reached) }
       go (inr (q, same)) = record { reached = omega (arith, there, f .so-far .reached); near = omega (arith, there, f .so-far .reached) }
 
-  -- the arc's end has been offered the entry of v and the arc
-  pub after-offer : (w d : ℕ) (dist′ front′ : List ℕ) (len′ : ℕ) → tail (net .seconds) (net .firsts) a ≡ w → getD dist v 0 + size net (a / 2) ≡ d → Offered dist front len w d dist′ front′ len′ → Following net source bound dist′ front′ len′ picked v a
-  after-offer w d dist′ front′ len′ is e o = go o
-    where
-      node : IsNode net w
-      node = subst (IsNode net) is (arc-end net ends a h)
+  -- the arc's end is offered the entry of v and the arc: a node, with room, and a walk as long
+  module _ (w d : ℕ) (is : tail (net .seconds) (net .firsts) a ≡ w) (e : getD dist v 0 + size net (a / 2) ≡ d) where
+    node : IsNode net w
+    node = subst (IsNode net) is (arc-end net ends a h)
 
-      room : w < length dist
-      room = omega (arith, node .to-nodes, f .state .room)
+    room : w < length dist
+    room = omega (arith, node .to-nodes, f .state .room)
 
-      way : (m : ℕ) → d ≡ suc m → Walk net source w m
-      way m q = subst (λ (k : ℕ). Walk net source k m) is (offer-walk m (e ∙ q))
+    way : (m : ℕ) → d ≡ suc m → Walk net source w m
+    way m q = subst (λ (k : ℕ). Walk net source k m) is (offer-walk m (e ∙ q))
 
-      some : d ≡ suc (pred d)
-      some = omega (arith, f .so-far .reached)
+    some : d ≡ suc (pred d)
+    some = omega (arith, f .so-far .reached)
 
-      small : d ≤ suc (maxLength * picked)
-      small = omega (arith, f .next-small)
+    small : d ≤ suc (maxLength * picked)
+    small = omega (arith, f .next-small)
 
-      go : Offered dist front len w d dist′ front′ len′ → Following net source bound dist′ front′ len′ picked v a
-      go (entered z p q r) =
-          rw (p, q, r)
-          (settle (set dist w d) (set front len w) (len + 1)
-          (after-entered net source bound dist w d (inl z) room (omega arith) front len picked v (suc a) (pred d) f some (way (pred d) some) node small z)
-          (stored w d is e room))
-      go (lowered z l p q r) =
-          rw (p, q, r)
-          (settle (set dist w d) front len
-          (after-lowered net source bound dist w d (inr l) room (omega arith) front len picked v (suc a) (pred d) f some (way (pred d) some) node small z)
-          (stored w d is e room))
-      go (passed z l p q r) =
-          rw (p, q, r)
-          (settle dist front len f (record { reached = rw is z; near = rw is (omega arith) }))
+    -- a node whose entry would fall waits: a settled one, and v itself, have the least already
+    pub falling-waits : 1 ≤ getD dist w 0 → d < getD dist w 0 → InFront front len w
+    falling-waits reached less = go (f .state .status w reached)
+      where
+        no-entry : (u low : ℕ) → Settled net source bound dist u low → u ≡ w → InFront front len w
+        no-entry u low x q = absurd (not-settled net source bound dist w d (inr less) room (omega (arith, some)) u (pred d) x some (way (pred d) some) q)
+
+        go : Status net source bound dist front len v w → InFront front len w
+        go (waiting x) = x
+        go (settled x) = no-entry w 0 x refl
+        go (followed q) = no-entry v (suc a) (f .so-far) (sym q)
+
+    -- it has been offered them
+    pub after-offer : {keys slots keys′ slots′ : List ℕ} (dist′ front′ : List ℕ) (len′ : ℕ) → Offered dist front keys slots len w d dist′ front′ keys′ slots′ len′ → Following net source bound dist′ front′ len′ picked v a
+    after-offer dist′ front′ len′ (entered z p q _ _ r) =
+        rw (p, q, r)
+        (settle (set dist w d) (set front len w) (len + 1)
+        (after-entered net source bound dist w d (inl z) room (omega (arith, some)) front len picked v (suc a) (pred d) f some (way (pred d) some) node small z)
+        (stored w d is e room))
+    after-offer dist′ front′ len′ (lowered z l p q _ _ r) =
+        rw (p, q, r)
+        (settle (set dist w d) front len
+        (after-lowered net source bound dist w d (inr l) room (omega (arith, some)) front len picked v (suc a) (pred d) f some (way (pred d) some) node small z)
+        (stored w d is e room))
+    after-offer dist′ front′ len′ (passed z l p q _ _ r) = rw (p, q, r) (settle dist front len f (record { reached = rw is z; near = rw is (omega arith) }))
+
+-- the entry of the node being followed is its distance, so it never changes
+pub same-entry : {net : Network} {source bound : ℕ} {dist front dist′ front′ : List ℕ} {len picked low len′ picked′ low′ v : ℕ} → Following net source bound dist front len picked v low → Following net source bound dist′ front′ len′ picked′ v low′ → getD dist′ v 0 ≡ getD dist v 0
+same-entry {dist = dist} {dist′ = dist′} {v = v} f g = go (pred (getD dist v 0)) (pred (getD dist′ v 0)) (omega (arith, f .so-far .reached)) (omega (arith, g .so-far .reached))
+  where
+    go : (m n : ℕ) → getD dist v 0 ≡ suc m → getD dist′ v 0 ≡ suc n → getD dist′ v 0 ≡ getD dist v 0
+    go m n p q = omega (arith, f .so-far .exact n (g .state .walks v n q), g .so-far .exact m (f .state .walks v m p))
 
 -- no arc is left: the node is settled
 pub all-followed : (net : Network) (source bound : ℕ) (dist front : List ℕ) (len picked v : ℕ) → Following net source bound dist front len picked v 0 → State net source bound dist front len picked 0

@@ -6,9 +6,13 @@ mod Nearest
 mod Offer
 mod Follow
 mod Picks
+mod Least
+mod Keyed
 mod Stops
 mod Rooms
 mod Slots
+mod Going
+mod Turns
 mod Entries
 mod Verdicts
 mod Answered

@@ -1,9 +1,9 @@
 -- The state of the search after a node has been offered an entry.
 use mathlib.Core.Bool.{Bool, true, false}
 use mathlib.Core.List.{List}
-use mathlib.Core.Logic.{_⊎_, inl, inr, _≢_, ⊎-elim}
+use mathlib.Core.Logic.{_⊎_, inl, inr, _≢_}
 use mathlib.Core.Path.{_≡_, _∙_, refl, sym, ap, subst}
-use Prim.Native.Nat.{ℕ, zero, suc, pred, _+_, _*_, _/_, _≤_, _<_}
+use Prim.Native.Nat.{ℕ, zero, suc, pred, _+_, _*_, _≤_, _<_}
 use native.Mathlib.Decide.{ℕ-discrete}
 use native.Mathlib.Omega.{arith}
 use borrow.Author.Tests.{le-leb, lt-leb}
@@ -13,10 +13,10 @@ use lib.Seq.{getD-set-same, getD-set-other}
 use Rattle.model.proofs.Laws.Counting.{count-below-cong, count-below-mono, sum-below-cong, sum-below-one, one-if-one}
 use Rattle.model.specs.Counting.{countBelow, sumBelow, one-if}
 use Rattle.model.specs.Limits.{maxLength}
-use Rattle.model.specs.Network.{Network, IsNode, edges, size}
+use Rattle.model.specs.Network.{Network, IsNode}
 use Rattle.model.specs.Walk.{Walk}
 use Rattle.distance.specs.Arcs.{tail}
-use Rattle.distance.specs.Search.{InFront, at, Followed, Settled, Status, waiting, settled, followed, State, Offered, entered, lowered, passed, Following}
+use Rattle.distance.specs.Search.{at, Settled, Status, waiting, settled, followed, State, Following}
 use Rattle.distance.proofs.Lists.{AfterStore, set-cases}
 
 -- one more number passes the test
@@ -51,13 +51,13 @@ count-short (suc n) i f h off = go (ℕ-discrete n i) (λ l. count-short n i f l
     go (yes e) ih = omega (arith, count-most n f, ap one-if (ap f e ∙ off))
     go (no e) ih = omega (arith, ih (omega arith), one-if-one (f n))
 
--- there is room in the front for a node that has not been reached
-pub front-has-room : {net : Network} {source bound : ℕ} {dist front : List ℕ} {len picked current : ℕ} (w : ℕ) → State net source bound dist front len picked current → IsNode net w → getD dist w 0 ≡ 0 → len < length front
-front-has-room {net} {dist = dist} {front = front} {len = len} w s node none = go (pred w) (omega (arith, node .from-one))
+-- while a node has not been reached, fewer wait than there are nodes
+pub not-all-wait : {net : Network} {source bound : ℕ} {dist front : List ℕ} {len picked current : ℕ} (w : ℕ) → State net source bound dist front len picked current → IsNode net w → getD dist w 0 ≡ 0 → len < net .nodes
+not-all-wait {net} {dist = dist} {len = len} w s node none = go (pred w) (omega (arith, node .from-one))
   where
-    go : (k : ℕ) → w ≡ suc k → len < length front
+    go : (k : ℕ) → w ≡ suc k → len < net .nodes
     go k is =
-        omega (arith, s .tally, s .front-room, count-short (net .nodes) k (λ j. leb 1 (getD dist (suc j) 0)) (omega (arith, node .to-nodes)) (lt-leb 1 (getD dist (suc k) 0) (omega (arith, ap (λ (j : ℕ). getD dist j 0) is))))
+        omega (arith, s .tally, count-short (net .nodes) k (λ j. leb 1 (getD dist (suc j) 0)) (omega (arith, node .to-nodes)) (lt-leb 1 (getD dist (suc k) 0) (omega (arith, ap (λ (j : ℕ). getD dist j 0) is))))
 
 module _ (net : Network) (source bound : ℕ) (dist : List ℕ) (w d : ℕ) (new : (getD dist w 0 ≡ 0) ⊎ (d < getD dist w 0)) (room : w < length dist) (some : 1 ≤ d) where
   -- an entry that has been reached stays reached and never rises
@@ -70,7 +70,7 @@ module _ (net : Network) (source bound : ℕ) (dist : List ℕ) (w d : ℕ) (new
       go (inr (e, q)) n = omega arith
 
   -- a node settled before has a walk as short as its entry, so it is not the one offered something nearer
-  not-settled : {low : ℕ} (u m : ℕ) → Settled net source bound dist u low → d ≡ suc m → Walk net source w m → u ≢ w
+  pub not-settled : {low : ℕ} (u m : ℕ) → Settled net source bound dist u low → d ≡ suc m → Walk net source w m → u ≢ w
   not-settled u m s e way = λ q. go q new
     where
       go : u ≡ w → (getD dist w 0 ≡ 0) ⊎ (d < getD dist w 0) → ⊥
@@ -186,7 +186,7 @@ module _ (net : Network) (source bound : ℕ) (dist : List ℕ) (w d : ℕ) (new
           })
         where
           fits : len < length front
-          fits = front-has-room w (f .state) node none
+          fits = omega (arith, not-all-wait w (f .state) node none, f .state .front-room)
 
           here : (k : ℕ) → w ≡ suc k → 1 ≤ getD (set dist w d) (suc k) 0
           here k e = subst (λ (j : ℕ). 1 ≤ getD (set dist w d) j 0) e (omega (arith, getD-set-same dist w d 0 room))

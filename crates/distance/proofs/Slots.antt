@@ -1,14 +1,12 @@
 -- What the code's indices rest on.
 use mathlib.Core.List.{List}
 use mathlib.Core.Path.{_≡_}
-use Prim.Native.Nat.{ℕ, suc, _+_, _≤_, _<_, _/_, _*_}
+use Prim.Native.Nat.{ℕ, _+_, _≤_, _<_}
 use native.Mathlib.Omega.{arith}
 use lib.ListN.{length, getD}
-use Rattle.model.specs.Limits.{maxLength}
-use Rattle.model.specs.Network.{Network, edges, size}
+use Rattle.model.specs.Network.{Network, edges}
 use Rattle.distance.specs.Arcs.{tail}
-use Rattle.distance.specs.Search.{Ready, State, Following}
-use Rattle.distance.proofs.Follow.{arc-end}
+use Rattle.distance.specs.Search.{Ready, State}
 use Rattle.distance.proofs.Offer.{few}
 use Rattle.distance.proofs.Ways.{last-le}
 
@@ -17,8 +15,6 @@ pub record Slot (net : Network) (dist front : List ℕ) (k : ℕ) : Type 0 where
   pub small : k < 512
   pub in-front : k < length front
   pub node-small : getD front k 0 ≤ net .nodes
-  pub nodes-small : net .nodes ≤ 512
-  pub in-dist : getD front k 0 < length dist
   pub reached : 1 ≤ getD dist (getD front k 0) 0
 
 pub slot : {net : Network} {last next : List ℕ} {source bound : ℕ} {dist front : List ℕ} {len picked current : ℕ} → Ready net last next source dist front → State net source bound dist front len picked current → (k : ℕ) → k < len → Slot net dist front k
@@ -29,34 +25,7 @@ slot {front = front} r s k h =
       small = omega (arith, few s, r .few-nodes);
       in-front = omega (arith, few s, s .front-room);
       node-small = node .to-nodes;
-      nodes-small = r .few-nodes;
-      in-dist = omega (arith, node .to-nodes, s .room);
       reached = reached;
-    }
-
--- an arc's index, its edge's, and the sum that is offered to its end
-pub record Reach (net : Network) (next dist : List ℕ) (v a : ℕ) : Type 0 where
-  pub small : a < 2048
-  pub in-next : a < length next
-  pub in-lengths : a / 2 < length (net .lengths)
-  pub in-firsts : a / 2 < length (net .firsts)
-  pub in-seconds : a / 2 < length (net .seconds)
-  pub node-small : v ≤ 512
-  pub in-dist : v < length dist
-  pub sum-small : getD dist v 0 + size net (a / 2) ≤ suc (1000000 * 512)
-
-pub reach : {net : Network} {last next : List ℕ} {source bound : ℕ} {dist front : List ℕ} {len picked v low : ℕ} → Ready net last next source dist front → Following net source bound dist front len picked v low → (a : ℕ) → a < edges net + edges net → Reach net next dist v a
-reach {v = v} r f a h =
-    let node = f .state .only-nodes v (f .so-far .reached) in
-    record {
-      small = omega (arith, r .few-edges);
-      in-next = omega (arith, r .linked .next-length);
-      in-lengths = omega arith;
-      in-firsts = omega (arith, r .firsts-length);
-      in-seconds = omega (arith, r .seconds-length);
-      node-small = omega (arith, node .to-nodes, r .few-nodes);
-      in-dist = omega (arith, node .to-nodes, r .room);
-      sum-small = omega (arith, f .next-small, few (f .state), r .few-nodes, r .short (a / 2) (omega arith));
     }
 
 -- the lists keep their lengths, so what the search asks still holds

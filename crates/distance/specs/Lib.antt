@@ -1,6 +1,7 @@
 -- What the contracts of this crate cite besides the definitions of model: the promises first, then what the search keeps.
 pub mod Answers
 pub mod Arcs
+pub mod Keys
 pub mod Search
 pub mod Routes
 pub mod Table

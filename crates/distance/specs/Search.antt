@@ -1,5 +1,4 @@
 -- What the search keeps while it runs. Entries are codes: 0 where no walk has been found, else one more than its length.
-use mathlib.Core.Bool.{Bool}
 use mathlib.Core.List.{List}
 use mathlib.Core.Path.{_≡_}
 use Prim.Native.Nat.{ℕ, suc, _+_, _*_, _/_, _<_, _≤_}
@@ -14,6 +13,7 @@ use Rattle.model.specs.NodeDistance.{nodeDistance, boundedDistance}
 use Rattle.model.specs.Walk.{Walk}
 use Rattle.model.specs.declared.check.Check.the-variants.{Accepted}
 use Rattle.distance.specs.Arcs.{tail, Linked}
+use Rattle.distance.specs.Keys.{keyOf}
 
 -- v is among the first len nodes of the front
 pub data InFront (front : List ℕ) (len v : ℕ) : Type 0 where
@@ -49,11 +49,19 @@ pub record State (net : Network) (source bound : ℕ) (dist front : List ℕ) (l
   pub tally : len + picked ≡ countBelow (net .nodes) (λ k. leb 1 (getD dist (suc k) 0))
   pub small : (v : ℕ) → getD dist v 0 ≤ suc (maxLength * picked)
 
--- what offering node w the entry d does to the entries and the front
-pub data Offered (dist front : List ℕ) (len w d : ℕ) (dist′ front′ : List ℕ) (len′ : ℕ) : Type 0 where
-  entered : getD dist w 0 ≡ 0 → dist′ ≡ set dist w d → front′ ≡ set front len w → len′ ≡ len + 1 → Offered dist front len w d dist′ front′ len′
-  lowered : 1 ≤ getD dist w 0 → d < getD dist w 0 → dist′ ≡ set dist w d → front′ ≡ front → len′ ≡ len → Offered dist front len w d dist′ front′ len′
-  passed : 1 ≤ getD dist w 0 → getD dist w 0 ≤ d → dist′ ≡ dist → front′ ≡ front → len′ ≡ len → Offered dist front len w d dist′ front′ len′
+-- what offering node w the entry d asks: room for a node not reached yet, and a key in the slot of one whose entry falls
+pub record Offerable (dist front keys slots : List ℕ) (len w d : ℕ) : Type 0 where
+  pub in-dist : w < length dist
+  pub in-slots : w < length slots
+  pub few : len < 4294967296
+  pub room : getD dist w 0 ≡ 0 → (len < length front) × (len < length keys)
+  pub slot : 1 ≤ getD dist w 0 → d < getD dist w 0 → getD slots w 0 < length keys
+
+-- what it does to the entries, the front, the keys and the slots
+pub data Offered (dist front keys slots : List ℕ) (len w d : ℕ) (dist′ front′ keys′ slots′ : List ℕ) (len′ : ℕ) : Type 0 where
+  entered : getD dist w 0 ≡ 0 → dist′ ≡ set dist w d → front′ ≡ set front len w → keys′ ≡ set keys len (keyOf d len) → slots′ ≡ set slots w len → len′ ≡ len + 1 → Offered dist front keys slots len w d dist′ front′ keys′ slots′ len′
+  lowered : 1 ≤ getD dist w 0 → d < getD dist w 0 → dist′ ≡ set dist w d → front′ ≡ front → keys′ ≡ set keys (getD slots w 0) (keyOf d (getD slots w 0)) → slots′ ≡ slots → len′ ≡ len → Offered dist front keys slots len w d dist′ front′ keys′ slots′ len′
+  passed : 1 ≤ getD dist w 0 → getD dist w 0 ≤ d → dist′ ≡ dist → front′ ≡ front → keys′ ≡ keys → slots′ ≡ slots → len′ ≡ len → Offered dist front keys slots len w d dist′ front′ keys′ slots′ len′
 
 -- a node whose arcs from number low on have been followed, beside the state
 pub record Following (net : Network) (source bound : ℕ) (dist front : List ℕ) (len picked v low : ℕ) : Type 0 where

@@ -3,6 +3,8 @@ mod answers;
 mod arcs;
 mod between;
 mod find;
+mod front;
+mod keys;
 mod location;
 mod row;
 mod search;

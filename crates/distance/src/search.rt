@@ -1,11 +1,20 @@
 // The bounded search from one node.
 ghost use mathlib.Core.Path.{_≡_};
-ghost use Prim.Native.Nat.{ℕ, suc, _<_};
+ghost use Prim.Native.Nat.{ℕ, _+_, _≤_, _<_};
 ghost use lib.ListN.{length, getD};
+ghost use Rattle.model.specs.Limits.{maxNodes};
 ghost use Rattle.model.specs.Network.{network};
-ghost use Rattle.distance.specs.Search.{Ready, Searched, Offered, Clipped};
+ghost use Rattle.distance.specs.Keys.{Keyed};
+ghost use Rattle.distance.specs.Search.{Ready, Searched, State, Following, Clipped};
 use crate::arcs::clear;
 use crate::arcs::tail_of;
+use crate::front::offer;
+use crate::front::remove;
+use crate::keys::entry_of;
+use crate::keys::key_of;
+use crate::keys::least_key;
+use crate::keys::place_of;
+use model::Network;
 
 // Why the search stopped: every node reached is settled, or the nearest one waiting is beyond the bound.
 enum Stop {
@@ -14,7 +23,6 @@ enum Stop {
 }
 
 // The entry of every node: 0 where no walk is within the bound, else one more than the least length.
-// Waiting nodes stand in the front in any order; each pick settles the nearest of them.
 pub(crate) fn search(
     nodes: u32,
     firsts: &[u32],
@@ -30,47 +38,82 @@ pub(crate) fn search(
     requires { ⌜ Ready (network nodes (now firsts) (now seconds) (now lengths)) (now last) (now next) source (now dist) (now front) ⌝ }
     ensures { λ _. ⌜ Searched (network nodes (now (firsts .entry)) (now (seconds .entry)) (now (lengths .entry))) source bound (now (dist .exit)) ⌝ }
 {
+    let mut keys = [0u64; Network::MAX_NODES as usize];
+    let mut slots = [0u32; Network::MAX_NODES as usize + 1];
+    search_with(
+        nodes,
+        firsts,
+        seconds,
+        lengths,
+        last,
+        next,
+        source,
+        bound,
+        dist,
+        front,
+        &mut keys,
+        &mut slots,
+    );
+}
+
+// Waiting nodes stand in the front in any order; each pick settles the nearest of them, which has the least key.
+fn search_with(
+    nodes: u32,
+    firsts: &[u32],
+    seconds: &[u32],
+    lengths: &[u32],
+    last: &[u32],
+    next: &[u32],
+    source: u32,
+    bound: u32,
+    dist: &mut [u32],
+    front: &mut [u32],
+    keys: &mut [u64],
+    slots: &mut [u32],
+)
+    requires { ⌜ Ready (network nodes (now firsts) (now seconds) (now lengths)) (now last) (now next) source (now dist) (now front) ⌝ }
+    requires { ⌜ (maxNodes ≤ length (now keys)) × (maxNodes < length (now slots)) ⌝ }
+    ensures { λ _. ⌜ Searched (network nodes (now (firsts .entry)) (now (seconds .entry)) (now (lengths .entry))) source bound (now (dist .exit)) ⌝ }
+{
     clear(dist);
     dist[source as usize] = 1;
     front[0] = source;
+    keys[0] = key_of(1, 0);
+    slots[source as usize] = 0;
     let mut len = 1;
     let mut picked: usize = 0;
-    let stop = 'picking: loop {
-        let mut best = 0;
-        let mut least: u32 = 4_294_967_295;
-        let mut k = 0;
-        loop {
-            if k == len {
-                if len == 0 {
-                    break 'picking Stop::Exhausted;
-                }
-                break;
-            }
-            let here = dist[front[k] as usize];
-            if here < least {
-                best = k;
-                least = here;
-            }
-            k += 1;
+    let stop = loop {
+        if len == 0 {
+            break Stop::Exhausted;
         }
-        let v = front[best] as usize;
-        if bound < dist[v] - 1 {
-            break 'picking Stop::Beyond;
+        let key = least_key(keys, len);
+        let least = entry_of(key);
+        if bound < least - 1 {
+            break Stop::Beyond;
         }
+        let best = place_of(key);
+        let v = front[best];
         len -= 1;
-        front[best] = front[len];
+        remove(front, keys, slots, len, best);
         picked += 1;
-        let mut h = last[v] as usize;
-        loop {
-            if h == 0 {
-                continue 'picking;
-            }
-            let a = h - 1;
-            let w = tail_of(seconds, firsts, a);
-            let entry = dist[v] + lengths[a / 2];
-            len = offer(dist, front, len, w, entry);
-            h = next[a] as usize;
-        }
+        len = follow(
+            nodes,
+            firsts,
+            seconds,
+            lengths,
+            last,
+            next,
+            source,
+            bound,
+            dist,
+            front,
+            keys,
+            slots,
+            len,
+            picked,
+            v,
+            least,
+        );
     };
     match stop {
         Stop::Exhausted => {}
@@ -78,22 +121,41 @@ pub(crate) fn search(
     }
 }
 
-// Offers node w an entry: a node not yet reached enters the front, one with a greater entry gets the lesser.
-fn offer(dist: &mut [u32], front: &mut [u32], len: usize, w: u32, entry: u32) -> usize
-    requires { ⌜ (w < length (now dist)) × (getD (now dist) w 0 ≡ 0 → len < length (now front)) ⌝ }
-    ensures { λ r. ⌜ Offered (now (dist .entry)) (now (front .entry)) len w entry (now (dist .exit)) (now (front .exit)) r ⌝ }
+// Offers each end of an arc of v the entry of v, which is the least, and the arc's length. Source, bound and picks are for the contract.
+fn follow(
+    nodes: u32,
+    firsts: &[u32],
+    seconds: &[u32],
+    lengths: &[u32],
+    last: &[u32],
+    next: &[u32],
+    source: u32,
+    bound: u32,
+    dist: &mut [u32],
+    front: &mut [u32],
+    keys: &mut [u64],
+    slots: &mut [u32],
+    len: usize,
+    picked: usize,
+    v: u32,
+    least: u32,
+) -> usize
+    requires { ⌜ Ready (network nodes (now firsts) (now seconds) (now lengths)) (now last) (now next) source (now dist) (now front) ⌝ }
+    requires { ⌜ Following (network nodes (now firsts) (now seconds) (now lengths)) source bound (now dist) (now front) len picked v (length (now lengths) + length (now lengths)) ⌝ }
+    requires { ⌜ Keyed nodes (now dist) (now front) (now keys) (now slots) len × (getD (now dist) v 0 ≡ least) ⌝ }
+    ensures { λ r. ⌜ State (network nodes (now (firsts .entry)) (now (seconds .entry)) (now (lengths .entry))) source bound (now (dist .exit)) (now (front .exit)) r picked 0 ⌝ }
+    ensures { λ r. ⌜ Keyed nodes (now (dist .exit)) (now (front .exit)) (now (keys .exit)) (now (slots .exit)) r ⌝ }
 {
-    let at = w as usize;
-    let old = dist[at];
-    if old == 0 {
-        dist[at] = entry;
-        front[len] = w;
-        return len + 1;
+    let mut waiting = len;
+    let mut h = last[v as usize] as usize;
+    while h != 0 {
+        let a = h - 1;
+        let w = tail_of(seconds, firsts, a);
+        let entry = least + lengths[a / 2];
+        waiting = offer(dist, front, keys, slots, waiting, w, entry);
+        h = next[a] as usize;
     }
-    if entry < old {
-        dist[at] = entry;
-    }
-    len
+    waiting
 }
 
 // An entry, or 0 where it is beyond the bound.
