@@ -497,6 +497,23 @@ const HALVE_THRESHOLDS: u64 = 8;
 const HALVE_REPORTS: u64 = 24;
 const SWEEP_STEP: u64 = 100;
 
+impl Method {
+    /// A method by its short name.
+    pub fn named(name: &str) -> Option<Method> {
+        Method::ALL.into_iter().find(|method| method.name() == name)
+    }
+
+    pub const ALL: [Method; 3] = [Method::RangeQuery, Method::CountAugmentation, Method::NeighbourSharing];
+
+    pub fn name(self) -> &'static str {
+        match self {
+            Method::RangeQuery => "query",
+            Method::CountAugmentation => "augmentation",
+            Method::NeighbourSharing => "sharing",
+        }
+    }
+}
+
 /// The method that should take least time, by rough step counts.
 pub fn fastest(sets: &Sets, thresholds: &Thresholds) -> Method {
     let marks = thresholds.values().len() as u64;

@@ -1,11 +1,12 @@
 //! Reads the three texts in the current folder and prints the table or the
-//! refusal. It ends with 0 either way: the paper names no other signal than
+//! refusal. A word (query, augmentation or sharing) sets the method. It ends with 0 either way: the paper names no other signal than
 //! the printed line.
 
 use std::fs::File;
 use std::io::{Read, Write};
 
-use reference::table::{run, FILES};
+use reference::counts::Method;
+use reference::table::{run_by, FILES};
 use reference::text::MAX_TEXT;
 
 /// A file that cannot be opened counts as empty. Doubtful: so does one that
@@ -23,7 +24,8 @@ fn contents(name: &str) -> Vec<u8> {
 
 fn main() {
     let [network, reports, thresholds] = FILES.map(contents);
-    let out = run(&network, &reports, &thresholds);
+    let method = std::env::args().nth(1).and_then(|name| Method::named(&name));
+    let out = run_by(method, &network, &reports, &thresholds);
     // Nobody left to tell if printing fails.
     let _ = std::io::stdout().write_all(out.as_bytes());
 }

@@ -1,6 +1,6 @@
 //! The table of observed, least and greatest, and the whole program on bytes.
 
-use crate::counts::{by, fastest, Counts};
+use crate::counts::{by, fastest, Counts, Method};
 use crate::lists::Refusal;
 use crate::model::{Network, Sets, Thresholds};
 use crate::text::{parse_network, parse_reports, parse_thresholds};
@@ -45,8 +45,14 @@ pub fn print(rows: &[Row]) -> String {
     out
 }
 
-/// The table of three texts, or the refused file with its refusal.
-pub fn table(network: &[u8], reports: &[u8], thresholds: &[u8]) -> Result<Vec<Row>, (&'static str, Refusal)> {
+/// The table of three texts, or the refused file with its refusal. Without a
+/// method, by the one that should be fastest.
+pub fn table(
+    method: Option<Method>,
+    network: &[u8],
+    reports: &[u8],
+    thresholds: &[u8],
+) -> Result<Vec<Row>, (&'static str, Refusal)> {
     let at = |file: usize| move |refusal: Refusal| (FILES[file], refusal);
     let lists = parse_network(network).map_err(at(0))?;
     let network = Network::new(lists.nodes, &lists.firsts, &lists.seconds, &lists.lengths).map_err(at(0))?;
@@ -55,13 +61,19 @@ pub fn table(network: &[u8], reports: &[u8], thresholds: &[u8]) -> Result<Vec<Ro
     let sets = Sets::new(&network, &lists.sets, &lists.legs, &lists.offsets).map_err(at(1))?;
     let values = parse_thresholds(thresholds).map_err(at(2))?;
     let thresholds = Thresholds::new(&values).map_err(at(2))?;
-    let counts = by(fastest(&sets, &thresholds), &network, &sets, &thresholds);
+    let method = method.unwrap_or_else(|| fastest(&sets, &thresholds));
+    let counts = by(method, &network, &sets, &thresholds);
     Ok(rows(&counts, &thresholds))
 }
 
 /// What the program prints for three texts.
 pub fn run(network: &[u8], reports: &[u8], thresholds: &[u8]) -> String {
-    match table(network, reports, thresholds) {
+    run_by(None, network, reports, thresholds)
+}
+
+/// The same by one method.
+pub fn run_by(method: Option<Method>, network: &[u8], reports: &[u8], thresholds: &[u8]) -> String {
+    match table(method, network, reports, thresholds) {
         Ok(rows) => print(&rows),
         Err((file, refusal)) => format!("refused,{},{},{}\r\n", file, refusal.number, refusal.place),
     }

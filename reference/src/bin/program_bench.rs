@@ -1,7 +1,8 @@
 //! Times the proved program beside the plain one on the same folders:
 //! `program_bench PROVED PLAIN FOLDER [WORD]` makes the folders in FOLDER, runs
 //! both programs in each by turns, checks that they print the same bytes, and
-//! prints the least time on the processor and the peak memory of each. WORD
+//! prints the least time on the processor and the peak memory of each. The
+//! plain one runs by whichever of its methods is fastest in that folder. WORD
 //! leaves only the lines that have it.
 
 use std::fs::{self, File};
@@ -10,6 +11,7 @@ use std::os::unix::process::CommandExt;
 use std::path::{Path, PathBuf};
 use std::process::Command;
 
+use reference::counts::Method;
 use reference::random::{self, Rng};
 use reference::table::FILES;
 use reference::text::MAX_TEXT;
@@ -92,9 +94,9 @@ struct Run {
     peak: i64,
 }
 
-fn run(program: &Path, folder: &Path, out: &Path) -> io::Result<Run> {
+fn run(program: &Path, method: Option<Method>, folder: &Path, out: &Path) -> io::Result<Run> {
     let mut command = Command::new(program);
-    command.current_dir(folder).stdout(File::create(out)?);
+    command.args(method.map(Method::name)).current_dir(folder).stdout(File::create(out)?);
     // SAFETY: it does nothing. With it the program is forked off: started the
     // quick way, this program's own peak would count as the other's.
     unsafe { command.pre_exec(|| Ok(())) };
@@ -107,15 +109,31 @@ fn run(program: &Path, folder: &Path, out: &Path) -> io::Result<Run> {
     Ok(Run { time: millis(usage.user) + millis(usage.system), peak: usage.peak })
 }
 
+/// The plain program's fastest method, three turns of each.
+fn best(plain: &Path, folder: &Path) -> io::Result<Method> {
+    let out = folder.join("plain.out");
+    let mut fastest = (f64::MAX, Method::RangeQuery);
+    for _ in 0..3 {
+        for method in Method::ALL {
+            let one = run(plain, Some(method), folder, &out)?;
+            if one.time < fastest.0 {
+                fastest = (one.time, method);
+            }
+        }
+    }
+    Ok(fastest.1)
+}
+
 /// Both by turns, at least 5 and up to two seconds: the least time and peak of
 /// each.
-fn compare(programs: [&Path; 2], folder: &Path) -> io::Result<[Run; 2]> {
+fn compare(programs: [(&Path, Option<Method>); 2], folder: &Path) -> io::Result<[Run; 2]> {
     let outs = [folder.join("proved.out"), folder.join("plain.out")];
     let mut least = [Run { time: f64::MAX, peak: i64::MAX }; 2];
     let (mut turns, mut spent) = (0, 0.0);
     while turns < 5 || (spent < 2_000.0 && turns < 100) {
         for k in 0..2 {
-            let one = run(programs[k], folder, &outs[k])?;
+            let (program, method) = programs[k];
+            let one = run(program, method, folder, &outs[k])?;
             least[k] = Run { time: least[k].time.min(one.time), peak: least[k].peak.min(one.peak) };
             spent += one.time;
         }
@@ -135,16 +153,17 @@ fn main() -> io::Result<()> {
     };
     let word = words.next().and_then(|word| word.into_string().ok()).unwrap_or_default();
     let (proved, plain) = (fs::canonicalize(proved)?, fs::canonicalize(plain)?);
-    println!("| Folder | nodes, legs | sets of reports | on legs | thresholds | proved, ms | plain, ms | ratio | proved, peak KB | plain, peak KB |");
-    println!("|---|---|---|---|---|---|---|---|---|---|");
+    println!("| Folder | nodes, legs | sets of reports | on legs | thresholds | proved, ms | plain, ms | plain by | ratio | proved, peak KB | plain, peak KB |");
+    println!("|---|---|---|---|---|---|---|---|---|---|---|");
     for case in CASES.iter().filter(|case| case.what.contains(&word)) {
         let folder = lay(Path::new(&folder), case)?;
-        let [a, b] = compare([&proved, &plain], &folder)?;
+        let method = best(&plain, &folder)?;
+        let [a, b] = compare([(&proved, None), (&plain, Some(method))], &folder)?;
         let on_legs = if case.on_legs == 0 { case.legs } else { case.on_legs };
         println!(
-            "| {} | {}, {} | {} of {} | {} | {} | {:.2} | {:.2} | {:.2} | {} | {} |",
+            "| {} | {}, {} | {} of {} | {} | {} | {:.2} | {:.2} | {} | {:.2} | {} | {} |",
             case.what, case.nodes, case.legs, case.sets, case.per_set, on_legs, case.thresholds,
-            a.time, b.time, a.time / b.time, a.peak, b.peak,
+            a.time, b.time, method.name(), a.time / b.time, a.peak, b.peak,
         );
     }
     Ok(())
