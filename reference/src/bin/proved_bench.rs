@@ -1,6 +1,7 @@
 //! Times the proved library beside the plain one, in one run, on the same
 //! input: the least of many turns of each, taken by turns, in time on the
-//! processor. A word as argument leaves only the lines that have it.
+//! processor. A word as argument leaves only the lines that have it. The word
+//! `methods` times the three proved methods beside each other instead.
 
 #[cfg(proved)]
 #[allow(dead_code)]
@@ -14,7 +15,8 @@ fn main() {
 
 #[cfg(proved)]
 fn main() {
-    if let Err(refusal) = bench::all() {
+    let methods = std::env::args().nth(1).is_some_and(|word| word == "methods");
+    if let Err(refusal) = if methods { bench::methods() } else { bench::all() } {
         println!("refused: {refusal:?}");
     }
 }
@@ -126,6 +128,52 @@ mod bench {
             assert!(told == expected, "{name}, {shape}: counts differ");
             told.fill(0);
             expected.fill(0);
+        }
+        Ok(())
+    }
+
+    /// Sets, reports in each, legs that have them (0 for all), thresholds.
+    const SHAPES: [(u32, usize, usize, usize); 16] = [
+        (1, 8_192, 1, 64),
+        (1, 8_192, 9, 64),
+        (1, 8_192, 9, 8),
+        (1, 8_192, 64, 64),
+        (1, 8_192, 128, 64),
+        (1, 8_192, 256, 64),
+        (1, 8_192, 0, 64),
+        (1, 8_192, 0, 8),
+        (1, 8_192, 0, 1),
+        (4, 2_048, 9, 64),
+        (4, 2_048, 32, 64),
+        (4, 2_048, 256, 8),
+        (4, 2_048, 0, 1),
+        (32, 256, 1, 64),
+        (32, 256, 9, 64),
+        (32, 256, 9, 1),
+    ];
+
+    /// The proved methods beside each other: the least of five turns of each,
+    /// in ms.
+    pub fn methods() -> Result<(), Refusal> {
+        let mut rng = Rng::new(2026);
+        let ring = random::ring_network(&mut rng, 512, 1_024, 1_000);
+        println!("| Sets of reports | on legs | thresholds | range query | count augmentation | neighbour sharing |");
+        println!("|---|---|---|---|---|---|");
+        for (sets, per_set, on_legs, marks) in SHAPES {
+            let reports = random::reports(&mut rng, &ring, sets, per_set, on_legs);
+            let thresholds = random::even_thresholds(marks, 6_000);
+            let mut told = vec![0; calls::counts_wanted(&reports.sets, &thresholds)];
+            let times = METHODS.map(|(_, proved, _, _)| {
+                let mut work = || {
+                    let _ = black_box(proved(&ring, &reports, &thresholds, &mut told));
+                };
+                (0..5).map(|_| once(&mut work)).min().map_or(0.0, |time| time.as_secs_f64() * 1e3)
+            });
+            let on_legs = if on_legs == 0 { 1_024 } else { on_legs };
+            println!(
+                "| {sets} of {per_set} | {on_legs} | {marks} | {:.1} | {:.1} | {:.1} |",
+                times[0], times[1], times[2]
+            );
         }
         Ok(())
     }
