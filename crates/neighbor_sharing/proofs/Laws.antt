@@ -13,7 +13,6 @@ pub mod AnsweringEnds
 pub mod Answering
 pub mod Claim
 pub mod Joined
-pub mod Reading
+pub mod Stands
 pub mod Apart
 pub mod Meeting
-pub mod Lent

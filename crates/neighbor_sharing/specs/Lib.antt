@@ -5,5 +5,6 @@ pub mod Answers
 pub mod Six
 pub mod Asked
 pub mod OneWay
+pub mod Stands
 pub mod Joined
 pub mod Runs

@@ -67,6 +67,11 @@ pub record Laid (p : ℕ) (xs : List ℕ) : Type 0 where
   pub on-edge : (k : ℕ) → k < length xs → getD xs k 0 ≤ p
   pub few : length xs ≤ maxEvents
 
+-- on two edges
+pub record EdgesLaid (w : Edges) (xs ys : List ℕ) : Type 0 where
+  pub first-laid : Laid (w .long1) xs
+  pub second-laid : Laid (w .long2) ys
+
 -- a list with a part put in its place from an index on
 unfoldable pub placed : ℕ → List ℕ → List ℕ → List ℕ
 placed from part l = take from l ++ (part ++ drop (from + length part) l)

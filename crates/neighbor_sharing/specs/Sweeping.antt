@@ -2,7 +2,7 @@
 use mathlib.Core.Bool.{Bool, true, false, cond}
 use mathlib.Core.List.{List, map}
 use mathlib.Core.Path.{_≡_}
-use Prim.Native.Nat.{ℕ, suc, _+_, _-_, _^_, _≤_, _<_}
+use Prim.Native.Nat.{ℕ, zero, suc, _+_, _-_, _^_, _≤_, _<_}
 use lib.Dec.{ltb}
 use lib.ListN.{length, getD}
 use Rattle.model.specs.Counting.{countIf}
@@ -36,6 +36,11 @@ resting c ys = rest (sideOf (c .falling)) ys
 unfoldable pub routeCursor : ℕ → ℕ → Bool → ℕ → Bool → Cursor
 routeCursor t p falling code first =
     record { falling = falling; plus = t + 1; minus = cond falling (code - 1) (p + (code - 1)); first = first }
+
+-- where the code is that of no route, a cursor that reaches nothing from any offset up to p
+unfoldable pub routeOrNone : ℕ → ℕ → Bool → ℕ → Bool → Cursor
+routeOrNone t p falling zero first = record { falling = falling; plus = 0; minus = p; first = first }
+routeOrNone t p falling (suc n) first = routeCursor t p falling (suc n) first
 
 unfoldable pub belowCursor : ℕ → Cursor
 belowCursor t = record { falling = false; plus = 0; minus = t; first = true }

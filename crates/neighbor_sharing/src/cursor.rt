@@ -1,9 +1,9 @@
 // One cursor: how many events of the second edge are reached from an event of the first, seen from an end of the second edge.
 ghost use mathlib.Core.Path.{_≡_};
-ghost use Prim.Native.Nat.{_-_, _<_};
+ghost use Prim.Native.Nat.{_-_, _≤_, _<_};
 ghost use lib.Dec.{ltb};
 ghost use lib.ListN.{length};
-ghost use Rattle.neighbor_sharing.specs.Sweeping.{sideOf, reach, reached, standing, resting, Ordered, Small, Movable, routeCursor, belowCursor, upToCursor};
+ghost use Rattle.neighbor_sharing.specs.Sweeping.{sideOf, reach, reached, standing, resting, Ordered, Small, Movable, routeCursor, routeOrNone, belowCursor, upToCursor};
 
 // A cursor of any kind. Its reach on the second edge is (plus) less (the offset on the first edge and minus) if it is falling,
 // else (the offset and plus) less (minus); it counts the events whose gap to the first or the second end is below its reach.
@@ -57,30 +57,46 @@ pub(crate) fn rest(cursor: Cursor, ys: &[u32]) -> usize
     0
 }
 
-// Moves a cursor to where it stands at an offset of the first edge: down while its outermost event is not reached, or up while
-// the next one is.
-pub(crate) fn advance(cursor: Cursor, ys: &[u32], long: u32, x: u32, position: usize) -> usize
-    requires { ⌜ Movable cursor long (now ys) x position ⌝ }
-    ensures { λ r. ⌜ r ≡ standing cursor long (now (ys .entry)) x ⌝ }
+// From a place that no more are reached than, down to where the outermost event is reached.
+fn fall(ys: &[u32], long: u32, first: bool, reach: u64, from: usize) -> usize
+    requires { ⌜ Ordered (now ys) × (from ≤ length (now ys)) × (reached long (sideOf first) reach (now ys) ≤ from) ⌝ }
+    ensures { λ r. ⌜ r ≡ reached long (sideOf first) reach (now (ys .entry)) ⌝ }
 {
-    let metres = reach(cursor, x);
-    let mut k = position;
-    if cursor.falling {
-        while 0 < k {
-            if is_reached(ys, long, cursor.first, metres, k - 1) {
-                return k;
-            }
-            k -= 1;
+    let mut k = from;
+    while 0 < k {
+        if is_reached(ys, long, first, reach, k - 1) {
+            return k;
         }
-        return k;
+        k -= 1;
     }
+    k
+}
+
+// From a place that no fewer are reached than, up to where the next event is not reached.
+fn rise(ys: &[u32], long: u32, first: bool, reach: u64, from: usize) -> usize
+    requires { ⌜ Ordered (now ys) × (from ≤ reached long (sideOf first) reach (now ys)) ⌝ }
+    ensures { λ r. ⌜ r ≡ reached long (sideOf first) reach (now (ys .entry)) ⌝ }
+{
+    let mut k = from;
     while k < ys.len() {
-        if !is_reached(ys, long, cursor.first, metres, k) {
+        if !is_reached(ys, long, first, reach, k) {
             return k;
         }
         k += 1;
     }
     k
+}
+
+// Moves a cursor to where it stands at an offset of the first edge: down if it is falling, else up.
+pub(crate) fn advance(cursor: Cursor, ys: &[u32], long: u32, x: u32, position: usize) -> usize
+    requires { ⌜ Movable cursor long (now ys) x position ⌝ }
+    ensures { λ r. ⌜ r ≡ standing cursor long (now (ys .entry)) x ⌝ }
+{
+    let metres = reach(cursor, x);
+    if cursor.falling {
+        return fall(ys, long, cursor.first, metres, position);
+    }
+    rise(ys, long, cursor.first, metres, position)
 }
 
 // The cursor of a route: its gap on the first edge is the offset if it is falling, else the length less the offset.
@@ -104,6 +120,28 @@ pub(crate) fn route(threshold: u32, long: u32, falling: bool, code: u32, first: 
         minus: long as u64 + metres,
         first,
     }
+}
+
+// The same, or a cursor that reaches nothing from any offset of the first edge where the code is that of no route.
+pub(crate) fn route_or_none(
+    threshold: u32,
+    long: u32,
+    falling: bool,
+    code: u32,
+    first: bool,
+) -> Cursor
+    ensures { λ r. ⌜ r ≡ routeOrNone threshold long falling code first ⌝ }
+    ensures { λ r. ⌜ Small r ⌝ }
+{
+    if code == 0 {
+        return Cursor {
+            falling,
+            plus: 0,
+            minus: long as u64,
+            first,
+        };
+    }
+    route(threshold, long, falling, code, first)
 }
 
 // The cursor of the offsets below own offset less threshold.

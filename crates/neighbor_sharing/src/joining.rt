@@ -1,10 +1,11 @@
-// What is reached from the events of the first edge, from the six cursors' positions.
+// What is reached from an event of the first edge, from the six cursors' positions.
 use crate::cursor::less;
+use crate::moving::Stands;
 ghost use mathlib.Core.Path.{_≡_};
-ghost use Prim.Native.Nat.{_-_, _≤_, _<_, min, max};
-ghost use Rattle.neighbor_sharing.specs.Joined.{joined, positionAt, Countable, joinedAt, joinedSum};
+ghost use Prim.Native.Nat.{_-_, _≤_, min, max};
+ghost use Rattle.neighbor_sharing.specs.Joined.{joined, joinedOf};
 
-fn lesser(a: u64, b: u64) -> u64
+pub(crate) fn lesser(a: u64, b: u64) -> u64
     ensures { λ r. ⌜ r ≡ min a b ⌝ }
 {
     if a < b { a } else { b }
@@ -35,38 +36,15 @@ fn joined(places: u64, ff: u64, fs: u64, sf: u64, ss: u64, low: u64, high: u64) 
     less(less(places, before_window), behind_window)
 }
 
-// The position of a cursor at an event of the first edge, which has so many. No cursor counts as position 0.
-fn position_at(positions: &[u32], events: usize, cursor: usize, i: usize) -> u64
-    requires { ⌜ Countable (now positions) events 0 × (cursor < 6) × (i < events) ⌝ }
-    ensures { λ r. ⌜ r ≡ positionAt (now (positions .entry)) events cursor i ⌝ }
+// How many of so many events of the second edge are reached where the cursors stand.
+pub(crate) fn joined_of(places: u64, stands: Stands) -> u64
+    ensures { λ r. ⌜ (r ≡ joinedOf places stands) × (r ≤ places) ⌝ }
 {
-    less(positions[cursor * events + i] as u64, 1)
-}
-
-// How many events of the second edge, which has so many, are reached from event i of the first.
-fn joined_at(positions: &[u32], events: usize, places: u64, i: usize) -> u64
-    requires { ⌜ Countable (now positions) events places × (i < events) ⌝ }
-    ensures { λ r. ⌜ (r ≡ joinedAt (now (positions .entry)) events places i) × (r ≤ places) ⌝ }
-{
-    let ff = position_at(positions, events, 0, i);
-    let fs = position_at(positions, events, 1, i);
-    let sf = position_at(positions, events, 2, i);
-    let ss = position_at(positions, events, 3, i);
-    let low = position_at(positions, events, 4, i);
-    let high = position_at(positions, events, 5, i);
+    let ff = stands.ff as u64;
+    let fs = stands.fs as u64;
+    let sf = stands.sf as u64;
+    let ss = stands.ss as u64;
+    let low = stands.low as u64;
+    let high = stands.high as u64;
     joined(places, ff, fs, sf, ss, low, high)
-}
-
-// The same for all events of the first edge together.
-pub(crate) fn count_swept(positions: &[u32], events: usize, places: u64) -> u64
-    requires { ⌜ Countable (now positions) events places ⌝ }
-    ensures { λ r. ⌜ (r ≡ joinedSum (now (positions .entry)) events places) × (r ≤ 67108864) ⌝ }
-{
-    let mut total = 0;
-    let mut i = 0;
-    while i < events {
-        total += joined_at(positions, events, places, i);
-        i += 1;
-    }
-    total
 }

@@ -2,6 +2,7 @@
 mod asked;
 mod cursor;
 mod joining;
+mod moving;
 mod pairs;
 mod runs;
 mod sets;

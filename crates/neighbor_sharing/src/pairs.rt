@@ -1,17 +1,19 @@
 // Two edges: the routes between their ends, and how many events of the one are reached from those of the other.
-use crate::joining::count_swept;
+use crate::joining::joined_of;
+use crate::joining::lesser;
+use crate::moving::at_rest;
+use crate::moving::move_to;
 use crate::sweep::Edges;
-use crate::sweep::sweep_edges;
-ghost use mathlib.Core.Bool.{true, false};
+ghost use mathlib.Core.Bool.{false};
 ghost use mathlib.Core.Path.{_≡_};
 ghost use Prim.Native.Nat.{ℕ, pred, _+_, _*_, _≤_, _<_};
 ghost use lib.ListN.{length, getD};
 ghost use Rattle.model.specs.Location.{reaches};
 ghost use Rattle.model.specs.Network.{network};
 ghost use Rattle.prepare.specs.EndTable.{EndTable, TableEntry};
-ghost use Rattle.neighbor_sharing.specs.Joined.{isReached, reachedPairs, joinedSum};
+ghost use Rattle.neighbor_sharing.specs.Joined.{reachedPairs, sweptSum, Beyond};
 ghost use Rattle.neighbor_sharing.specs.Runs.{tableEdges};
-ghost use Rattle.neighbor_sharing.specs.Six.{decoded, EdgesSweepable, EdgesSwept};
+ghost use Rattle.neighbor_sharing.specs.Six.{decoded, EdgesLaid};
 
 // The table entry of two nodes.
 fn entry(nodes: u32, table: &[u32], u: u32, v: u32) -> u32
@@ -49,68 +51,61 @@ pub(crate) fn table_edges(
     }
 }
 
-// The route of a code is within the threshold if its gaps are 0.
-fn is_within(threshold: u32, code: u32) -> bool
-    ensures { λ r. ⌜ r ≡ reaches threshold 0 (decoded code) 0 ⌝ }
+// The metres of a code; more than any threshold where it is that of no route.
+fn metres_of(code: u32) -> u64
+    ensures { λ r. ⌜ ((t : ℕ) → t < r → reaches t 0 (decoded code) 0 ≡ false) ⌝ }
 {
     if code == 0 {
-        return false;
+        return 4294967296;
     }
-    code - 1 <= threshold
+    code as u64 - 1
 }
 
-// The edges are two, and no route between them is within the threshold: their events need not be looked at, at this threshold or a
-// lower one.
-pub(crate) fn is_apart(threshold: u32, edges: Edges) -> bool
-    ensures { λ r. ⌜ (r ≡ true → (t : ℕ) → t ≤ threshold → (x y : ℕ) → isReached t edges x y ≡ false) ⌝ }
+// The metres of the shortest route between two edges: at a lower threshold their events need not be looked at. 0 on one edge.
+pub(crate) fn nearest(edges: Edges) -> u64
+    ensures { λ r. ⌜ Beyond edges r ⌝ }
 {
     if edges.same {
-        return false;
-    }
-    if is_within(threshold, edges.ff) {
-        return false;
-    }
-    if is_within(threshold, edges.fs) {
-        return false;
-    }
-    if is_within(threshold, edges.sf) {
-        return false;
-    }
-    !is_within(threshold, edges.ss)
-}
-
-// For each event of the first edge, how many of the second are reached: counted from the positions that a sweep leaves.
-fn count_pairs(
-    threshold: u32,
-    edges: Edges,
-    xs: &[u32],
-    ys: &[u32],
-    positions: &mut [u32],
-    moves: &mut [u32],
-) -> u64
-    requires { ⌜ EdgesSweepable edges (now xs) (now ys) (now positions) (now moves) ⌝ }
-    ensures { λ r. ⌜ (r ≡ reachedPairs threshold edges (now (xs .entry)) (now (ys .entry))) × (r ≤ 67108864) ⌝ }
-    ensures { λ r. ⌜ r ≡ joinedSum (now (positions .exit)) (length (now (xs .entry))) (length (now (ys .entry))) ⌝ }
-    ensures { λ _. ⌜ EdgesSwept threshold edges (now (xs .entry)) (now (ys .entry)) (now (positions .entry)) (now (moves .entry)) (now (positions .exit)) (now (moves .exit)) ⌝ }
-{
-    sweep_edges(threshold, edges, xs, ys, positions, moves);
-    count_swept(positions, xs.len(), ys.len() as u64)
-}
-
-// The same, left at once where no route between two edges is within the threshold. What positions and moves hold is free.
-pub(crate) fn count_within(
-    threshold: u32,
-    edges: Edges,
-    xs: &[u32],
-    ys: &[u32],
-    positions: &mut [u32],
-    moves: &mut [u32],
-) -> u64
-    requires { ⌜ EdgesSweepable edges (now xs) (now ys) (now positions) (now moves) ⌝ }
-    ensures { λ r. ⌜ (r ≡ reachedPairs threshold edges (now (xs .entry)) (now (ys .entry))) × (r ≤ 67108864) ⌝ }
-{
-    if is_apart(threshold, edges) {
         return 0;
     }
-    count_pairs(threshold, edges, xs, ys, positions, moves)
+    let ff = metres_of(edges.ff);
+    let fs = metres_of(edges.fs);
+    let sf = metres_of(edges.sf);
+    let ss = metres_of(edges.ss);
+    lesser(lesser(ff, fs), lesser(sf, ss))
+}
+
+// For each event of the first edge, how many of the second are reached, by cursors that are moved from event to event.
+fn count_pairs(threshold: u32, edges: Edges, xs: &[u32], ys: &[u32]) -> u64
+    requires { ⌜ EdgesLaid edges (now xs) (now ys) ⌝ }
+    ensures { λ r. ⌜ (r ≡ reachedPairs threshold edges (now (xs .entry)) (now (ys .entry))) × (r ≤ 67108864) ⌝ }
+    ensures { λ r. ⌜ r ≡ sweptSum threshold edges (now (xs .entry)) (now (ys .entry)) ⌝ }
+{
+    let places = ys.len() as u64;
+    let mut stands = at_rest(ys);
+    let mut total = 0;
+    let mut i = 0;
+    while i < xs.len() {
+        stands = move_to(threshold, edges, ys, xs[i], stands);
+        total += joined_of(places, stands);
+        i += 1;
+    }
+    total
+}
+
+// The same, left at once below the metres of the shortest route.
+pub(crate) fn count_within(
+    threshold: u32,
+    nearest: u64,
+    edges: Edges,
+    xs: &[u32],
+    ys: &[u32],
+) -> u64
+    requires { ⌜ EdgesLaid edges (now xs) (now ys) × Beyond edges nearest ⌝ }
+    ensures { λ r. ⌜ (r ≡ reachedPairs threshold edges (now (xs .entry)) (now (ys .entry))) × (r ≤ 67108864) ⌝ }
+{
+    if (threshold as u64) < nearest {
+        return 0;
+    }
+    count_pairs(threshold, edges, xs, ys)
 }

@@ -1,6 +1,6 @@
 // The pairs of a set at every threshold, run by run.
 use crate::pairs::count_within;
-use crate::pairs::is_apart;
+use crate::pairs::nearest;
 use crate::pairs::table_edges;
 use crate::sweep::Edges;
 ghost use mathlib.Core.Path.{_≡_};
@@ -9,9 +9,8 @@ ghost use lib.ListN.{length, getD};
 ghost use Rattle.model.specs.Network.{network};
 ghost use Rattle.prepare.specs.RunPairs.{runPairs};
 ghost use Rattle.prepare.specs.Totals.{Steps, ReadyAt, UpTo, AddedAt, EarlierAdded, Totalled};
-ghost use Rattle.neighbor_sharing.specs.Joined.{reachedPairs};
-ghost use Rattle.neighbor_sharing.specs.Runs.{SweepRoom};
-ghost use Rattle.neighbor_sharing.specs.Six.{EdgesSweepable};
+ghost use Rattle.neighbor_sharing.specs.Joined.{reachedPairs, Beyond};
+ghost use Rattle.neighbor_sharing.specs.Six.{EdgesLaid};
 
 // An entry of a list as a place.
 pub(crate) fn place(list: &[u32], k: usize) -> usize
@@ -28,24 +27,23 @@ fn threshold_at(thresholds: &[u32], k: usize) -> u32
     thresholds[k]
 }
 
-// Adds, at each threshold, how many events of a run on the second edge are reached from those of one on the first. What positions
-// and moves hold is free.
+// Adds, at each threshold, how many events of a run on the second edge are reached from those of one on the first: none at a
+// threshold below the metres to the nearest.
 fn add_counts(
     pair: Edges,
+    nearest: u64,
     xs: &[u32],
     ys: &[u32],
-    positions: &mut [u32],
-    moves: &mut [u32],
     thresholds: &[u32],
     totals: &mut [u64],
 )
-    requires { ⌜ EdgesSweepable pair (now xs) (now ys) (now positions) (now moves) × UpTo (length (now thresholds)) 9223372036854775808 (now totals) ⌝ }
+    requires { ⌜ EdgesLaid pair (now xs) (now ys) × Beyond pair nearest × UpTo (length (now thresholds)) 9223372036854775808 (now totals) ⌝ }
     ensures { λ _. ⌜ AddedAt (length (now (thresholds .entry))) (λ k. reachedPairs (getD (now (thresholds .entry)) k 0) pair (now (xs .entry)) (now (ys .entry))) (now (totals .entry)) (now (totals .exit)) ⌝ }
 {
     let mut k = 0;
     while k < thresholds.len() {
         let threshold = threshold_at(thresholds, k);
-        let found = count_within(threshold, pair, xs, ys, positions, moves);
+        let found = count_within(threshold, nearest, pair, xs, ys);
         totals[k] += found;
         k += 1;
     }
@@ -62,14 +60,12 @@ fn add_runs(
     edges: &[u32],
     offsets: &[u32],
     bounds: &[u32],
-    positions: &mut [u32],
-    moves: &mut [u32],
     thresholds: &[u32],
     a: usize,
     b: usize,
     totals: &mut [u64],
 )
-    requires { ⌜ ReadyAt (network nodes (now firsts) (now seconds) (now lengths)) (now table) (now edges) (now offsets) (now bounds) (now thresholds) b (suc a) × (b ≤ a) × Steps (now thresholds) × UpTo (length (now thresholds)) 9223372036854775808 (now totals) × SweepRoom (now positions) (now moves) ⌝ }
+    requires { ⌜ ReadyAt (network nodes (now firsts) (now seconds) (now lengths)) (now table) (now edges) (now offsets) (now bounds) (now thresholds) b (suc a) × (b ≤ a) × Steps (now thresholds) × UpTo (length (now thresholds)) 9223372036854775808 (now totals) ⌝ }
     ensures { λ _. ⌜ AddedAt (length (now (thresholds .entry))) (λ k. runPairs (network nodes (now (firsts .entry)) (now (seconds .entry)) (now (lengths .entry))) (now (edges .entry)) (now (offsets .entry)) (now (bounds .entry)) (getD (now (thresholds .entry)) k 0) a b) (now (totals .entry)) (now (totals .exit)) ⌝ }
 {
     let from = place(bounds, a);
@@ -80,15 +76,15 @@ fn add_runs(
     let f = place(edges, other_from);
     let pair = table_edges(nodes, firsts, seconds, lengths, table, e - 1, f - 1);
     let greatest = threshold_at(thresholds, thresholds.len() - 1);
-    if is_apart(greatest, pair) {
+    let metres = nearest(pair);
+    if (greatest as u64) < metres {
         return;
     }
     add_counts(
         pair,
+        metres,
         &offsets[from..to],
         &offsets[other_from..other_to],
-        positions,
-        moves,
         thresholds,
         totals,
     );
@@ -104,14 +100,12 @@ fn add_earlier(
     edges: &[u32],
     offsets: &[u32],
     bounds: &[u32],
-    positions: &mut [u32],
-    moves: &mut [u32],
     thresholds: &[u32],
     r: usize,
     a: usize,
     totals: &mut [u64],
 )
-    requires { ⌜ ReadyAt (network nodes (now firsts) (now seconds) (now lengths)) (now table) (now edges) (now offsets) (now bounds) (now thresholds) r (suc a) × (r ≤ a) × Steps (now thresholds) × UpTo (length (now thresholds)) 4611686018427387904 (now totals) × SweepRoom (now positions) (now moves) ⌝ }
+    requires { ⌜ ReadyAt (network nodes (now firsts) (now seconds) (now lengths)) (now table) (now edges) (now offsets) (now bounds) (now thresholds) r (suc a) × (r ≤ a) × Steps (now thresholds) × UpTo (length (now thresholds)) 4611686018427387904 (now totals) ⌝ }
     ensures { λ _. ⌜ EarlierAdded (network nodes (now (firsts .entry)) (now (seconds .entry)) (now (lengths .entry))) (now (edges .entry)) (now (offsets .entry)) (now (bounds .entry)) (now (thresholds .entry)) r a (now (totals .entry)) (now (totals .exit)) ⌝ }
 {
     let mut b = r;
@@ -125,8 +119,6 @@ fn add_earlier(
             edges,
             offsets,
             bounds,
-            positions,
-            moves,
             thresholds,
             a,
             b,
@@ -146,15 +138,13 @@ pub(crate) fn add_all(
     edges: &[u32],
     offsets: &[u32],
     bounds: &[u32],
-    positions: &mut [u32],
-    moves: &mut [u32],
     thresholds: &[u32],
     r: usize,
     q: usize,
     beside: &mut [u64],
     earlier: &mut [u64],
 )
-    requires { ⌜ ReadyAt (network nodes (now firsts) (now seconds) (now lengths)) (now table) (now edges) (now offsets) (now bounds) (now thresholds) r q × Steps (now thresholds) × UpTo (length (now thresholds)) 0 (now beside) × UpTo (length (now thresholds)) 0 (now earlier) × SweepRoom (now positions) (now moves) ⌝ }
+    requires { ⌜ ReadyAt (network nodes (now firsts) (now seconds) (now lengths)) (now table) (now edges) (now offsets) (now bounds) (now thresholds) r q × Steps (now thresholds) × UpTo (length (now thresholds)) 0 (now beside) × UpTo (length (now thresholds)) 0 (now earlier) ⌝ }
     ensures { λ _. ⌜ Totalled (network nodes (now (firsts .entry)) (now (seconds .entry)) (now (lengths .entry))) (now (edges .entry)) (now (offsets .entry)) (now (bounds .entry)) (now (thresholds .entry)) r q (now (beside .exit)) (now (earlier .exit)) ⌝ }
 {
     let mut a = r;
@@ -168,8 +158,6 @@ pub(crate) fn add_all(
             edges,
             offsets,
             bounds,
-            positions,
-            moves,
             thresholds,
             a,
             a,
@@ -184,8 +172,6 @@ pub(crate) fn add_all(
             edges,
             offsets,
             bounds,
-            positions,
-            moves,
             thresholds,
             r,
             a,

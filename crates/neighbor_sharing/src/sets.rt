@@ -7,15 +7,9 @@ ghost use Rattle.model.specs.Network.{network};
 ghost use Rattle.prepare.specs.Counts.{CountsAnswered};
 ghost use Rattle.prepare.specs.RunPairs.{otherRow, RowReady};
 ghost use Rattle.prepare.specs.Totals.{Steps, RowFits, RowSummed};
-ghost use Rattle.neighbor_sharing.specs.Runs.{SweepRoom};
 use model::Check;
 use model::EventSet;
 use model::Thresholds;
-
-// Six cursors, each with a position at every event of the first edge.
-const MOVES: usize = 6;
-
-const POSITIONS: usize = MOVES * EventSet::MAX_EVENTS;
 
 // The counts of a set at each threshold: the pairs within its runs and twice those with earlier ones; an event is no pair with itself.
 fn write_row(bounds: &[u32], r: usize, q: usize, beside: &[u64], earlier: &[u64], row: &mut [u32])
@@ -43,14 +37,12 @@ fn set_row(
     edges: &[u32],
     offsets: &[u32],
     bounds: &[u32],
-    positions: &mut [u32],
-    moves: &mut [u32],
     thresholds: &[u32],
     r: usize,
     q: usize,
     row: &mut [u32],
 )
-    requires { ⌜ RowReady (network nodes (now firsts) (now seconds) (now lengths)) (now table) (now edges) (now offsets) (now bounds) (now thresholds) r q × Steps (now thresholds) × (length (now row) ≡ length (now thresholds)) × SweepRoom (now positions) (now moves) ⌝ }
+    requires { ⌜ RowReady (network nodes (now firsts) (now seconds) (now lengths)) (now table) (now edges) (now offsets) (now bounds) (now thresholds) r q × Steps (now thresholds) × (length (now row) ≡ length (now thresholds)) ⌝ }
     ensures { λ _. ⌜ now (row .exit) ≡ otherRow (network nodes (now (firsts .entry)) (now (seconds .entry)) (now (lengths .entry))) (now (edges .entry)) (now (offsets .entry)) (now (bounds .entry)) (now (thresholds .entry)) r q ⌝ }
 {
     let mut beside = [0u64; Thresholds::MAX_THRESHOLDS];
@@ -64,8 +56,6 @@ fn set_row(
         edges,
         offsets,
         bounds,
-        positions,
-        moves,
         thresholds,
         r,
         q,
@@ -90,8 +80,6 @@ fn count_sets(
     bounds: &mut [u32; prepare::BOUNDS],
     set_runs: &mut [u32; prepare::SET_RUNS],
     table: &mut [u32; prepare::TABLE],
-    positions: &mut [u32; POSITIONS],
-    moves: &mut [u32; MOVES],
     answers: &mut [u32],
 ) -> Check
     ensures { λ r. ⌜ CountsAnswered (network nodes (now (firsts .entry)) (now (seconds .entry)) (now (lengths .entry))) (now (sets .entry)) (now (edges .entry)) (now (offsets .entry)) (now (thresholds .entry)) (now (answers .entry)) r (now (answers .exit)) ⌝ }
@@ -132,8 +120,6 @@ fn count_sets(
             laid_edges,
             laid_offsets,
             bounds,
-            positions,
-            moves,
             thresholds,
             r,
             q,
@@ -164,8 +150,6 @@ pub fn counts(
     let mut bounds = [0u32; prepare::BOUNDS];
     let mut set_runs = [0u32; prepare::SET_RUNS];
     let mut table = [0u32; prepare::TABLE];
-    let mut positions = [0u32; POSITIONS];
-    let mut moves = [0u32; MOVES];
     count_sets(
         nodes,
         firsts,
@@ -180,8 +164,6 @@ pub fn counts(
         &mut bounds,
         &mut set_runs,
         &mut table,
-        &mut positions,
-        &mut moves,
         answers,
     )
 }

@@ -52,7 +52,7 @@ pub struct Edges {
 }
 
 // The code of the distance between an end of the first edge and one of the second.
-fn code_between(edges: Edges, first1: bool, first2: bool) -> u32
+pub(crate) fn code_between(edges: Edges, first1: bool, first2: bool) -> u32
     ensures { λ r. ⌜ r ≡ codeBetween edges (sideOf first1) (sideOf first2) ⌝ }
 {
     if first1 {

@@ -1,36 +1,28 @@
 -- The six positions at an event of the first edge say how many events of the second edge some route or the window reaches.
-use mathlib.Core.Bool.{Bool, true, false, not, _&&_, _||_}
+use mathlib.Core.Bool.{Bool, true, false, not, cond, _&&_, _||_}
 use mathlib.Core.List.{List}
-use mathlib.Core.Path.{_≡_, _∙_, refl, sym, ap, ap₂}
-use Prim.Native.Nat.{ℕ, suc, _+_, _-_, _≤_, _<_, max}
+use mathlib.Core.Path.{_≡_, _∙_, sym, ap, ap₂}
+use Prim.Native.Nat.{ℕ, _+_, _-_, _≤_, _<_, max}
 use native.Mathlib.Decide.{decLe, decLt}
 use native.Mathlib.Omega.{arith}
 use borrow.Author.Tests.{leb-true, le-leb, lt-leb, ltb-true, lt-ltb, le-ltb}
 use lib.Dec.{leb, ltb}
 use lib.ListN.{length, getD}
 use Rattle.model.specs.Counting.{countIf}
-use Rattle.model.specs.Distance.{Distance, metres, none, plus, within, difference}
+use Rattle.model.specs.Distance.{Distance, difference}
 use Rattle.model.specs.Location.{Side, at-first, at-second, gap, reaches}
 use Rattle.model.proofs.Laws.Arrival.{below-max, from-max, by-arrival, in-window, no-place, not-below}
-use Rattle.model.proofs.Laws.Counting.{count-cong, count-mono}
-use Rattle.model.proofs.Laws.Cover.{cover-list, first-places, none-pass}
+use Rattle.model.proofs.Laws.Counting.{count-cong, count-mono, sum-below-cong}
+use Rattle.model.proofs.Laws.Cover.{cover-list, first-places}
 use Rattle.model.proofs.Laws.Routes.{some-route}
 use Rattle.neighbor_sharing.proofs.Laws.Nearest.{Down, first-reached, second-reached}
 use Rattle.neighbor_sharing.proofs.Laws.Positions.{reaches-less}
-use Rattle.neighbor_sharing.specs.Answers.{marked, markedIf}
 use Rattle.neighbor_sharing.specs.Cursors.{position, below, upTo}
-use Rattle.neighbor_sharing.specs.Joined.{joined}
+use Rattle.neighbor_sharing.specs.Joined.{joined, joinedOf, joinedFrom, sweptSum, reachedBy, isReached, reachedPairs}
+use Rattle.neighbor_sharing.specs.Six.{distanceBetween}
+use Rattle.neighbor_sharing.specs.Stands.{routeStand, standsAt}
 use Rattle.neighbor_sharing.specs.Sweeping.{Ordered}
-
--- no cursor reaches nothing, so what is written for it counts as position 0
-none-reached : (t p : ℕ) (s : Side) (q : ℕ) (s′ : Side) (ys : List ℕ) (x : ℕ) → position t p s none q s′ ys x ≡ 0
-unfolding position reaches plus within
-none-reached t p s q s′ ys x = none-pass _ ys (λ k h. refl)
-
-pub marked-position : (t p : ℕ) (s : Side) (d : Distance) (q : ℕ) (s′ : Side) (ys : List ℕ) (x : ℕ) → marked d (position t p s d q s′ ys x) - 1 ≡ position t p s d q s′ ys x
-unfolding marked
-marked-position t p s none q s′ ys x = omega (arith, none-reached t p s q s′ ys x)
-marked-position t p s (metres n) q s′ ys x = omega arith
+use Rattle.neighbor_sharing.specs.declared.sweep.Edges.{Edges}
 
 module _ (t p x q : ℕ) (d : Side → Side → Distance) (ys : List ℕ) (o : Ordered ys) where
   abbrev at : Side → Side → ℕ
@@ -96,21 +88,34 @@ module _ (t p x q : ℕ) (d : Side → Side → Distance) (ys : List ℕ) (o : O
   window-opens = count-mono _ _ ys (λ y e. le-leb y (x + t) (omega (arith, ltb-true (y + t) x e)))
 
   -- on one edge the window stands between its two cursors, on two there is none
-  opens : (same : Bool) → markedIf same (below t ys x) - 1 ≤ markedIf same (upTo t ys x) - 1
-  unfolding markedIf
-  opens true = omega (arith, window-opens)
+  opens : (same : Bool) → cond same (below t ys x) 0 ≤ cond same (upTo t ys x) 0
+  opens true = window-opens
   opens false = omega arith
 
-  around : (same : Bool) (k : ℕ) → k < length ys → (same && leb (difference x (getD ys k 0)) t) ≡ (leb (markedIf same (below t ys x) - 1) k && ltb k (markedIf same (upTo t ys x) - 1))
-  unfolding markedIf
+  around : (same : Bool) (k : ℕ) → k < length ys → (same && leb (difference x (getD ys k 0)) t) ≡ (leb (cond same (below t ys x) 0) k && ltb k (cond same (upTo t ys x) 0))
   around false k h = no-place 0 k
-  around true k h =
-      let one-less : (n : ℕ) → suc n - 1 ≡ n = λ n. omega arith in
-      rw (one-less (below t ys x), one-less (upTo t ys x))
-      (in-window x (getD ys k 0) t ∙ ap₂ _&&_ (window-from k h) (window-to k h))
+  around true k h = in-window x (getD ys k 0) t ∙ ap₂ _&&_ (window-from k h) (window-to k h)
 
-  pub reached-joined : (same : Bool) → countIf (λ y. some-route t d p x q y || (same && leb (difference x y) t)) ys ≡ joined (length ys) (at at-first at-first) (at at-first at-second) (at at-second at-first) (at at-second at-second) (markedIf same (below t ys x) - 1) (markedIf same (upTo t ys x) - 1)
+  reached-joined : (same : Bool) → countIf (λ y. some-route t d p x q y || (same && leb (difference x y) t)) ys ≡ joined (length ys) (at at-first at-first) (at at-first at-second) (at at-second at-first) (at at-second at-second) (cond same (below t ys x) 0) (cond same (upTo t ys x) 0)
   unfolding joined
   reached-joined same =
       count-cong _ _ ys (λ y. sym (by-arrival (by at-first at-first y) (by at-first at-second y) (by at-second at-first y) (by at-second at-second y) (same && leb (difference x y) t)))
-      ∙ cover-list ys (arrives at-first) (arrives at-second) (λ y. same && leb (difference x y) t) (max (at at-first at-first) (at at-second at-first)) (max (at at-first at-second) (at at-second at-second)) (markedIf same (below t ys x) - 1) (markedIf same (upTo t ys x) - 1) (opens same) first-arrives last-arrives (around same)
+      ∙ cover-list ys (arrives at-first) (arrives at-second) (λ y. same && leb (difference x y) t) (max (at at-first at-first) (at at-second at-first)) (max (at at-first at-second) (at at-second at-second)) (cond same (below t ys x) 0) (cond same (upTo t ys x) 0) (opens same) first-arrives last-arrives (around same)
+
+-- what the six positions at an offset give
+joined-reached : (t : ℕ) (w : Edges) (ys : List ℕ) → Ordered ys → (x : ℕ) → joinedFrom t w ys x ≡ countIf (isReached t w x) ys
+unfolding joinedFrom joinedOf standsAt routeStand isReached reachedBy
+joined-reached t w ys o x = sym (reached-joined t (w .long1) x (w .long2) (distanceBetween w) ys o (w .same))
+
+-- over all events of the first edge
+pub sum-reached : (t : ℕ) (w : Edges) (xs ys : List ℕ) → Ordered ys → sweptSum t w xs ys ≡ reachedPairs t w xs ys
+unfolding sweptSum reachedPairs
+sum-reached t w xs ys o = sum-below-cong (length xs) _ _ (λ i h. joined-reached t w ys o (getD xs i 0))
+
+-- no more are reached than there are
+pub joined-few : (n ff fs sf ss low high : ℕ) → joined n ff fs sf ss low high ≤ n
+unfolding joined
+joined-few n ff fs sf ss low high = go _ _
+  where
+    go : (a b : ℕ) → n - a - b ≤ n
+    go a b = omega arith

@@ -1,22 +1,20 @@
 -- The cursors of the six kinds stand where their definitions say.
 use mathlib.Core.Bool.{Bool, true, false}
-use mathlib.Core.List.{List, [], _∷_, _++_, map, map-map, map-const′, append-nil}
+use mathlib.Core.List.{List, [], _∷_, _++_, map, append-nil}
 use mathlib.Core.Path.{_≡_, _∙_, refl, sym, ap, ap₂}
 use Prim.Native.Nat.{ℕ, zero, suc, _+_, _-_, _≤_, _<_}
 use native.Mathlib.Decide.{decLe, decLt}
 use native.Mathlib.Omega.{arith}
-use borrow.Author.Tests.{leb-true, le-leb, lt-leb, ltb-true, lt-ltb, le-ltb}
+use borrow.Author.Tests.{le-leb, lt-leb, lt-ltb, le-ltb}
 use borrow.Author.Fill.{fill-more}
 use lib.Dec.{leb, ltb}
 use lib.ListN.{length, getD, set, drop, replicate, length-append, length-replicate, drop-of-length-le}
-use lib.Seq.{ext-getD}
-use Rattle.model.specs.Distance.{Distance, metres, none, plus, within}
-use Rattle.model.specs.Location.{Side, at-first, at-second, gap, reaches}
+use Rattle.model.specs.Distance.{metres, plus, within}
+use Rattle.model.specs.Location.{gap, reaches}
 use Rattle.model.proofs.Laws.Counting.{count-cong}
-use Rattle.neighbor_sharing.specs.Answers.{marked, markedIf}
-use Rattle.neighbor_sharing.specs.Cursors.{position, positions, below, upTo, rest, moves}
-use Rattle.neighbor_sharing.specs.Six.{Laid}
-use Rattle.neighbor_sharing.specs.Sweeping.{sideOf, reach, reached, standing, resting, routeCursor, belowCursor, upToCursor}
+use Rattle.neighbor_sharing.specs.Cursors.{position, below, upTo}
+use Rattle.neighbor_sharing.specs.Six.{decoded}
+use Rattle.neighbor_sharing.specs.Sweeping.{sideOf, reach, reached, standing, routeCursor, routeOrNone, belowCursor, upToCursor}
 
 -- what is left of the threshold for the second edge
 route-reach : (t p n x : ℕ) (falling first : Bool) → x ≤ p → reach (routeCursor t p falling (suc n) first) x ≡ suc t - (gap p (sideOf falling) x + n)
@@ -36,6 +34,33 @@ pub route-standing : (t p q n : ℕ) (falling first : Bool) (ys : List ℕ) (x :
 unfolding standing reached routeCursor position reaches plus within
 route-standing t p q n falling first ys x h =
     count-cong _ _ ys (λ y. ap (ltb (gap q (sideOf first) y)) (route-reach t p n x falling first h) ∙ left-of t (gap p (sideOf falling) x + n) (gap q (sideOf first) y))
+
+-- where there is no route, nothing
+none-reach : (p x : ℕ) (falling first : Bool) → x ≤ p → reach (record { falling = falling; plus = 0; minus = p; first = first }) x ≡ 0
+unfolding reach
+none-reach p x true first h = omega arith
+none-reach p x false first h = omega arith
+
+pub route-or-none-standing : (t p q code : ℕ) (falling first : Bool) (ys : List ℕ) (x : ℕ) → x ≤ p → standing (routeOrNone t p falling code first) q ys x ≡ position t p (sideOf falling) (decoded code) q (sideOf first) ys x
+unfolding standing reached routeOrNone decoded position reaches plus within
+route-or-none-standing t p q zero falling first ys x h =
+    count-cong _ _ ys (λ y. ap (ltb (gap q (sideOf first) y)) (none-reach p x falling first h) ∙ le-ltb (gap q (sideOf first) y) 0 (omega arith))
+route-or-none-standing t p q (suc n) falling first ys x h = route-standing t p q n falling first ys x h
+
+pub route-or-none-falling : (t p : ℕ) (falling : Bool) (code : ℕ) (first : Bool) → routeOrNone t p falling code first .falling ≡ falling
+unfolding routeOrNone routeCursor
+route-or-none-falling t p falling zero first = refl
+route-or-none-falling t p falling (suc n) first = refl
+
+-- which of the two is made
+pub none-made : (t p : ℕ) (falling : Bool) (code : ℕ) (first : Bool) → code ≡ 0 → record { falling = falling; plus = 0; minus = p; first = first } ≡ routeOrNone t p falling code first
+unfolding routeOrNone
+none-made t p falling code first e = rw e refl
+
+pub some-made : (t p : ℕ) (falling : Bool) (code : ℕ) (first : Bool) → 1 ≤ code → routeCursor t p falling code first ≡ routeOrNone t p falling code first
+unfolding routeOrNone
+some-made t p falling zero first h = absurd (omega arith)
+some-made t p falling (suc n) first h = refl
 
 pub below-standing : (t q : ℕ) (ys : List ℕ) (x : ℕ) → standing (belowCursor t) q ys x ≡ below t ys x
 unfolding standing reached belowCursor reach sideOf gap below

@@ -1,5 +1,5 @@
 -- Two runs of one set: what is reached by the table's entries is what lies within the threshold.
-use mathlib.Core.Bool.{false, _&&_, _||_}
+use mathlib.Core.Bool.{_&&_, _||_}
 use mathlib.Core.List.{List}
 use mathlib.Core.Path.{_≡_, _∙_, refl, sym, ap}
 use Prim.Native.Nat.{ℕ, suc, pred, _+_, _-_, _≤_, _<_}
@@ -23,9 +23,9 @@ use Rattle.prepare.specs.Totals.{Steps, ReadyAt, AddedAt}
 use Rattle.prepare.proofs.Laws.RunPairs.{TwoRead, run-is, run-codes}
 use Rattle.prepare.proofs.Laws.Totals.{to-greatest}
 use Rattle.neighbor_sharing.proofs.Laws.Apart.{decoded-code, no-pairs}
-use Rattle.neighbor_sharing.specs.Joined.{reachedBy, isReached, reachedPairs}
-use Rattle.neighbor_sharing.specs.Runs.{tableEdges, SweepRoom}
-use Rattle.neighbor_sharing.specs.Six.{decoded, codeBetween, distanceBetween, Laid, EdgesSweepable}
+use Rattle.neighbor_sharing.specs.Joined.{reachedBy, isReached, reachedPairs, Beyond}
+use Rattle.neighbor_sharing.specs.Runs.{tableEdges}
+use Rattle.neighbor_sharing.specs.Six.{decoded, codeBetween, distanceBetween, Laid, EdgesLaid}
 use Rattle.neighbor_sharing.specs.declared.sweep.Edges.{Edges}
 
 -- the codes of two edges are the table's entries
@@ -130,18 +130,12 @@ module _ {net : Network} {table es xs bounds : List ℕ} {a b t : ℕ} (w : Runs
       edges-are = is ∙ rw (edge-a, edge-b, sub-one (edgeOf es bounds a), sub-one (edgeOf es bounds b))
 
       -- what the sweep asks
-      pub sweepable : (positions moves : List ℕ) → SweepRoom positions moves → EdgesSweepable g (take (to - from) (drop from xs)) (take (other-to - other-from) (drop other-from xs)) positions moves
+      pub laid : EdgesLaid g (take (to - from) (drop from xs)) (take (other-to - other-from) (drop other-from xs))
       unfolding tableEdges
-      sweepable positions moves room =
+      laid =
           let first = run-laid w a le (omega arith) in
           let second = run-laid w b (omega arith) (omega arith) in
-          rw (part-a, part-b, edges-are)
-          (record {
-            first-laid = first;
-            second-laid = second;
-            room = omega (arith, first .few, room .positions-room);
-            sums-room = room .moves-room;
-          })
+          rw (part-a, part-b, edges-are) (record { first-laid = first; second-laid = second })
 
       -- what it counts
       pub counted : (x : ℕ) → x ≡ reachedPairs t g (take (to - from) (drop from xs)) (take (other-to - other-from) (drop other-from xs)) → x ≡ runPairs net es xs bounds t a b
@@ -158,5 +152,5 @@ module _ {net : Network} {table es xs bounds ts : List ℕ} {a b : ℕ} (w : Rea
   runs-added {old} found = record { at = λ k h. found .at k h ∙ ap (λ (n : ℕ). getD old k 0 + n) (counted-at k h _ refl) }
 
   -- no route is within the greatest
-  pub left-at-once : (old : List ℕ) → Steps ts → (greatest : ℕ) → greatest ≡ getD ts (length ts - 1) 0 → ((t : ℕ) → t ≤ greatest → (x y : ℕ) → isReached t g x y ≡ false) → AddedAt (length ts) (λ k. runPairs net es xs bounds (getD ts k 0) a b) old old
-  left-at-once old steps greatest last off = record { at = λ k h. omega (arith, counted-at k h 0 (no-pairs (getD ts k 0) g _ _ (off (getD ts k 0) (to-greatest steps greatest last k h)))) }
+  pub left-at-once : (old : List ℕ) → Steps ts → (greatest : ℕ) → greatest ≡ getD ts (length ts - 1) 0 → (n : ℕ) → Beyond g n → greatest < n → AddedAt (length ts) (λ k. runPairs net es xs bounds (getD ts k 0) a b) old old
+  left-at-once old steps greatest last n far less = record { at = λ k h. omega (arith, counted-at k h 0 (no-pairs (getD ts k 0) g _ _ (far .nothing (getD ts k 0) (omega (arith, to-greatest steps greatest last k h))))) }

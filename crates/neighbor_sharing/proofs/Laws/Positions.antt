@@ -1,13 +1,11 @@
 -- The positions of the six cursors: each moves one way only, by the side of its gap on the first edge, and no more than there are events.
-use mathlib.Core.Bool.{Bool, true, false, false≢true}
-use mathlib.Core.List.{List, [], _∷_, map}
-use mathlib.Core.Path.{_≡_, _∙_, refl, sym, ap}
-use Prim.Native.Nat.{ℕ, zero, suc, _+_, _-_, _≤_, _<_}
+use mathlib.Core.Bool.{true, false, false≢true}
+use mathlib.Core.List.{List, map}
+use mathlib.Core.Path.{_≡_}
+use Prim.Native.Nat.{ℕ, _+_, _-_, _≤_}
 use native.Mathlib.Omega.{arith}
 use borrow.Author.Tests.{leb-true, le-leb, ltb-true, lt-ltb}
-use lib.Dec.{leb, ltb}
-use lib.ListN.{length, getD}
-use Rattle.model.specs.Counting.{countIf}
+use lib.ListN.{length}
 use Rattle.model.specs.Distance.{Distance, metres, none, plus, within}
 use Rattle.model.specs.Location.{Side, at-first, at-second, gap, reaches}
 use Rattle.model.proofs.Laws.Counting.{count-mono, count-at-most}
@@ -23,12 +21,12 @@ reaches-less t a a′ none b b′ h k e = absurd (false≢true e)
 
 module _ (t p : ℕ) (d : Distance) (q : ℕ) (s′ : Side) (ys : List ℕ) where
   -- a position moves one way with the offset on the first edge
-  position-on : (s : Side) (x y : ℕ) → x ≤ y → Passes s (position t p s d q s′ ys x) (position t p s d q s′ ys y)
+  pub position-on : (s : Side) (x y : ℕ) → x ≤ y → Passes s (position t p s d q s′ ys x) (position t p s d q s′ ys y)
   unfolding position gap
   position-on at-first x y h = count-mono _ _ ys (λ z e. reaches-less t x y d (gap q s′ z) (gap q s′ z) h (omega arith) e)
   position-on at-second x y h = count-mono _ _ ys (λ z e. reaches-less t (p - y) (p - x) d (gap q s′ z) (gap q s′ z) (omega arith) (omega arith) e)
 
-  position-in : (s : Side) (x : ℕ) → position t p s d q s′ ys x ≤ length ys
+  pub position-in : (s : Side) (x : ℕ) → position t p s d q s′ ys x ≤ length ys
   unfolding position
   position-in s x = count-at-most _ ys
 
@@ -44,11 +42,11 @@ module _ (t p : ℕ) (d : Distance) (q : ℕ) (s′ : Side) (ys : List ℕ) wher
   few-moves s xs o = moves-few s ys _ (one-way s xs o) (last-in (position t p s d q s′ ys) (length ys) (position-in s) xs (rest s ys) (rest-in s ys))
 
 -- the window's two cursors rise from 0
-below-on : (t : ℕ) (ys : List ℕ) (x y : ℕ) → x ≤ y → below t ys x ≤ below t ys y
+pub below-on : (t : ℕ) (ys : List ℕ) (x y : ℕ) → x ≤ y → below t ys x ≤ below t ys y
 unfolding below
 below-on t ys x y h = count-mono _ _ ys (λ z e. lt-ltb (z + t) y (omega (arith, ltb-true (z + t) x e)))
 
-up-to-on : (t : ℕ) (ys : List ℕ) (x y : ℕ) → x ≤ y → upTo t ys x ≤ upTo t ys y
+pub up-to-on : (t : ℕ) (ys : List ℕ) (x y : ℕ) → x ≤ y → upTo t ys x ≤ upTo t ys y
 unfolding upTo
 up-to-on t ys x y h = count-mono _ _ ys (λ z e. le-leb z (y + t) (omega (arith, leb-true z (x + t) e)))
 

@@ -52,11 +52,11 @@ module _ (t : ℕ) (w : Edges) (xs ys : List ℕ) where
   abbrev window : (List ℕ → ℕ → ℕ) → List ℕ
   window f = windowMarks t (w .long1) (w .long2) (distanceBetween w) (w .same) xs ys f
 
-  pub marks-length : (s s′ : Side) → length (marks s s′) ≡ length xs
+  marks-length : (s s′ : Side) → length (marks s s′) ≡ length xs
   unfolding routeMarks positions
   marks-length s s′ = simp length-map
 
-  pub window-length : (f : List ℕ → ℕ → ℕ) → length (window f) ≡ length xs
+  window-length : (f : List ℕ → ℕ → ℕ) → length (window f) ≡ length xs
   unfolding windowMarks
   window-length f = simp length-map
 

@@ -5,14 +5,14 @@ use lib.ListN.{length, getD}
 use Rattle.model.specs.Network.{network}
 use Rattle.prepare.specs.RunPairs.{RunsReady}
 use Rattle.prepare.proofs.Laws.RunPairs.{TwoRead, ready-table}
-use Rattle.neighbor_sharing.proofs.Laws.Meeting.{PartsIn, run-listed, run-named, edge-a, edge-b, parts-in, sweepable, runs-added, left-at-once}
+use Rattle.neighbor_sharing.proofs.Laws.Meeting.{PartsIn, run-listed, run-named, edge-a, edge-b, parts-in, laid, runs-added, left-at-once}
 use borrow.Author.Needs.{needs}
 use Rattle.neighbor_sharing.proofs.runs.add_runs.Statement.{statement}
 use Rattle.neighbor_sharing.proofs.runs.add_runs.Tie as tie
 
 -- the call, from where both runs are read
 abbrev call : tie.After-place6 → tie.Start
-call c = c .before .before .before .before .before .before .before .before .before .before .before .before .before .before .before .before .before
+call c = c .before .before .before .before .before .before .before .before .before .before .before .before .before .before .before
 
 -- what is read, at the first threshold
 ready : (c : tie.Start) → RunsReady (network (c .args .nodes) (c .args .firsts .now) (c .args .seconds .now) (c .args .lengths .now)) (c .args .table .now) (c .args .edges .now) (c .args .offsets .now) (c .args .bounds .now) (c .args .b) (suc (c .args .a)) (getD (c .args .thresholds .now) 0 0)
@@ -42,28 +42,28 @@ parts : (c : tie.After-place6) → PartsIn (call c .args .offsets .now) (c .befo
 parts c = parts-in (ready (call c)) (call c .pre .1) (read c)
 
 place-requires : tie.Need-place-requires
-place-requires c κs = omega (arith, ready (c .before .before .before .before .before .before .before .before .before .before .before) .in-bounds)
+place-requires c κs = omega (arith, ready (c .before .before .before .before .before .before .before .before .before) .in-bounds)
 
 add-place : tie.Need-add-place
-add-place c = omega (arith, ready (c .before .before .before .before .before .before .before .before .before .before .before .before) .few-runs)
+add-place c = omega (arith, ready (c .before .before .before .before .before .before .before .before .before .before) .few-runs)
 
 place-requires-2 : tie.Need-place-requires-2
-place-requires-2 c κs = omega (arith, ready (c .before .before .before .before .before .before .before .before .before .before .before .before) .in-bounds)
+place-requires-2 c κs = omega (arith, ready (c .before .before .before .before .before .before .before .before .before .before) .in-bounds)
 
 place-requires-3 : tie.Need-place-requires-3
-place-requires-3 c κs = omega (arith, ready (c .before .before .before .before .before .before .before .before .before .before .before .before .before) .in-bounds, c .before .before .before .before .before .before .before .before .before .before .before .before .before .pre .1)
+place-requires-3 c κs = omega (arith, ready (c .before .before .before .before .before .before .before .before .before .before .before) .in-bounds, c .before .before .before .before .before .before .before .before .before .before .before .pre .1)
 
 add-place-2 : tie.Need-add-place-2
-add-place-2 c = omega (arith, ready (c .before .before .before .before .before .before .before .before .before .before .before .before .before .before) .few-runs, c .before .before .before .before .before .before .before .before .before .before .before .before .before .before .pre .1)
+add-place-2 c = omega (arith, ready (c .before .before .before .before .before .before .before .before .before .before .before .before) .few-runs, c .before .before .before .before .before .before .before .before .before .before .before .before .pre .1)
 
 place-requires-4 : tie.Need-place-requires-4
-place-requires-4 c κs = omega (arith, ready (c .before .before .before .before .before .before .before .before .before .before .before .before .before .before) .in-bounds, c .before .before .before .before .before .before .before .before .before .before .before .before .before .before .pre .1)
+place-requires-4 c κs = omega (arith, ready (c .before .before .before .before .before .before .before .before .before .before .before .before) .in-bounds, c .before .before .before .before .before .before .before .before .before .before .before .before .pre .1)
 
 place-requires-5 : tie.Need-place-requires-5
-place-requires-5 c κs = let le = c .before .before .before .before .before .before .before .before .before .before .before .before .before .before .before .pre .1 in run-listed (ready (c .before .before .before .before .before .before .before .before .before .before .before .before .before .before .before)) le _ _ le (omega arith) (c .before .before .before .place .ensures)
+place-requires-5 c κs = let le = c .before .before .before .before .before .before .before .before .before .before .before .before .before .pre .1 in run-listed (ready (c .before .before .before .before .before .before .before .before .before .before .before .before .before)) le _ _ le (omega arith) (c .before .before .before .place .ensures)
 
 place-requires-6 : tie.Need-place-requires-6
-place-requires-6 c κs = let le = c .before .before .before .before .before .before .before .before .before .before .before .before .before .before .before .before .pre .1 in run-listed (ready (c .before .before .before .before .before .before .before .before .before .before .before .before .before .before .before .before)) le _ _ (omega arith) le (c .before .before .place3 .ensures)
+place-requires-6 c κs = let le = c .before .before .before .before .before .before .before .before .before .before .before .before .before .before .pre .1 in run-listed (ready (c .before .before .before .before .before .before .before .before .before .before .before .before .before .before)) le _ _ (omega arith) le (c .before .before .place3 .ensures)
 
 sub-table-edges : tie.Need-sub-table-edges
 sub-table-edges c = first-named c .0
@@ -75,17 +75,20 @@ table-edges-requires : tie.Need-table-edges-requires
 table-edges-requires c κs = (ready-table (ready (call c)), first-named c .1, second-named c .1)
 
 sub-threshold-at : tie.Need-sub-threshold-at
-sub-threshold-at c = omega (arith, c .before .before .before .before .before .before .before .before .before .before .before .before .before .before .before .before .before .before .pre .2 .some)
+sub-threshold-at c = omega (arith, c .before .before .before .before .before .before .before .before .before .before .before .before .before .before .before .before .pre .2 .some)
 
 threshold-at-requires : tie.Need-threshold-at-requires
-threshold-at-requires c κs = omega (arith, c .before .before .before .before .before .before .before .before .before .before .before .before .before .before .before .before .before .before .pre .2 .some)
+threshold-at-requires c κs = omega (arith, c .before .before .before .before .before .before .before .before .before .before .before .before .before .before .before .before .pre .2 .some)
 
-is-apart-requires : tie.Need-is-apart-requires
-is-apart-requires c κs = search needs
+nearest-requires : tie.Need-nearest-requires
+nearest-requires c κs = search needs
+
+cast-if1 : tie.Need-cast-if1
+cast-if1 c = search needs
 
 returns : tie.Need-returns
 returns c =
-    left-at-once (c .before .before .before .before .before .before .before .before .before .before .before .before .before .before .before .before .before .before .before .before .before .pre .0) (c .before .before .before .before .before .before .before .before .before .before .before .before .before .before .before .before .before .before .before .before .before .pre .1) (read (c .before .before .before .before)) _ (c .before .before .before .table-edges .ensures) _ (c .before .before .before .before .before .before .before .before .before .before .before .before .before .before .before .before .before .before .before .before .before .pre .2) _ (c .before .before .threshold-at .ensures) (c .before .is-apart .ensures (c .if1 .taken))
+    left-at-once (c .before .before .before .before .before .before .before .before .before .before .before .before .before .before .before .before .before .before .before .pre .0) (c .before .before .before .before .before .before .before .before .before .before .before .before .before .before .before .before .before .before .before .pre .1) (read (c .before .before .before .before)) _ (c .before .before .before .table-edges .ensures) _ (c .before .before .before .before .before .before .before .before .before .before .before .before .before .before .before .before .before .before .before .pre .2) _ (c .before .before .threshold-at .ensures) _ (c .before .nearest .ensures) (c .if1 .taken)
 
 mul-add-counts : tie.Need-mul-add-counts
 mul-add-counts c = omega (arith, parts (c .before .before .before .before))
@@ -113,22 +116,17 @@ part-add-counts-end-2 c = omega (arith, parts (c .before .before .before .before
 
 add-counts-requires : tie.Need-add-counts-requires
 add-counts-requires c κs = (
-  sweepable (ready (c .before .before .before .before .before .before .before .before .before .before .before .before .before .before .before .before .before .before .before .before .before .before .before .before .before .before)) (c .before .before .before .before .before .before .before .before .before .before .before .before .before .before .before .before .before .before .before .before .before .before .before .before .before .before .pre .1) (read (c .before .before .before .before .before .before .before .before .before)) _ (c .before .before .before .before .before .before .before .before .table-edges .ensures) _ _ (c .before .before .before .before .before .before .before .before .before .before .before .before .before .before .before .before .before .before .before .before .before .before .before .before .before .before .pre .4),
-  c .before .before .before .before .before .before .before .before .before .before .before .before .before .before .before .before .before .before .before .before .before .before .before .before .before .before .pre .3,
+  laid (ready (c .before .before .before .before .before .before .before .before .before .before .before .before .before .before .before .before .before .before .before .before .before .before)) (c .before .before .before .before .before .before .before .before .before .before .before .before .before .before .before .before .before .before .before .before .before .before .pre .1) (read (c .before .before .before .before .before .before .before)) _ (c .before .before .before .before .before .before .table-edges .ensures),
+  c .before .before .before .before .nearest .ensures,
+  c .before .before .before .before .before .before .before .before .before .before .before .before .before .before .before .before .before .before .before .before .before .before .pre .3,
 )
 
 same-length : tie.Need-same-length
-same-length c = c .before .before .before .before .before .positions .given
-
-same-length-2 : tie.Need-same-length-2
-same-length-2 c = c .before .before .before .moves .given
-
-same-length-3 : tie.Need-same-length-3
-same-length-3 c = c .before .totals .given
+same-length c = c .before .totals .given
 
 returns-2 : tie.Need-returns-2
 returns-2 c =
-    runs-added (c .before .before .before .before .before .before .before .before .before .before .before .before .before .before .before .before .before .before .before .before .before .before .before .before .before .before .before .before .before .before .before .before .before .pre .0) (c .before .before .before .before .before .before .before .before .before .before .before .before .before .before .before .before .before .before .before .before .before .before .before .before .before .before .before .before .before .before .before .before .before .pre .1) (read (c .before .before .before .before .before .before .before .before .before .before .before .before .before .before .before .before)) _ (c .before .before .before .before .before .before .before .before .before .before .before .before .before .before .before .table-edges .ensures) (c .before .before .before .before .before .before .add-counts .ensures)
+    runs-added (c .before .before .before .before .before .before .before .before .before .before .before .before .before .before .before .before .before .before .before .before .before .before .before .before .before .pre .0) (c .before .before .before .before .before .before .before .before .before .before .before .before .before .before .before .before .before .before .before .before .before .before .before .before .before .pre .1) (read (c .before .before .before .before .before .before .before .before .before .before)) _ (c .before .before .before .before .before .before .before .before .before .table-edges .ensures) (c .before .before .add-counts .ensures)
 
 pub add-runs-spec : {M : Type 1} → statement M
 add-runs-spec =
@@ -147,7 +145,8 @@ add-runs-spec =
     table-edges-requires
     sub-threshold-at
     threshold-at-requires
-    is-apart-requires
+    nearest-requires
+    cast-if1
     returns
     mul-add-counts
     sub-add-counts
@@ -159,6 +158,4 @@ add-runs-spec =
     part-add-counts-end-2
     add-counts-requires
     same-length
-    same-length-2
-    same-length-3
     returns-2)

@@ -8,17 +8,16 @@ use Rattle.model.specs.Network.{network}
 use Rattle.prepare.proofs.Laws.AllSets.{Begun, begun, SetsWritten, sets-begin, row-fits, row-asks, set-written, refused-answered, all-answered}
 use Rattle.model.proofs.Laws.Pieces.{part-long}
 use Rattle.prepare.proofs.Laws.TotalRows.{steps-accepted}
-use Rattle.neighbor_sharing.proofs.Laws.Lent.{lent-arrays}
 use borrow.Author.Needs.{needs}
 use Rattle.neighbor_sharing.proofs.sets.count_sets.Statement.{statement}
 use Rattle.neighbor_sharing.proofs.sets.count_sets.Tie as tie
 
 abbrev Inv-loop : tie.InvT-loop
-Inv-loop nodes firsts seconds lengths sets edges offsets thresholds laid-edges laid-offsets bounds set-runs table positions₀ moves₀ answers₀ verdict count width start₀ s₀ positions moves answers start s =
+Inv-loop nodes firsts seconds lengths sets edges offsets thresholds laid-edges laid-offsets bounds set-runs table answers₀ verdict count width start₀ s₀ answers start s =
     (s ≤ count) × (length answers ≡ length answers₀) × SetsWritten (network nodes firsts seconds lengths) sets edges offsets thresholds answers₀ s start answers
 
 abbrev μ-loop : tie.MeasureT-loop
-μ-loop nodes firsts seconds lengths sets edges offsets thresholds laid-edges laid-offsets bounds set-runs table positions₀ moves₀ answers₀ verdict count width start₀ s₀ positions moves answers start s = count - s
+μ-loop nodes firsts seconds lengths sets edges offsets thresholds laid-edges laid-offsets bounds set-runs table answers₀ verdict count width start₀ s₀ answers start s = count - s
 
 -- the call, and what was prepared for it
 abbrev call : tie.After-greatest-set Inv-loop μ-loop → tie.Start Inv-loop μ-loop
@@ -70,7 +69,7 @@ place-requires-2 : tie.Need-place-requires-2 Inv-loop μ-loop
 place-requires-2 c κs = omega (arith, c .place-arg4 .given .0, fixed (c .before .before .before .before .before .before .before) .few-sets)
 
 mul-set-row : tie.Need-mul-set-row Inv-loop μ-loop
-mul-set-row c = omega (arith, next-fits (c .before .before .before .before .before .before .before .before .before .before .before .before .before .before .before .before), c .before .before .before .before .before .before .before .before .before .before .before .before .before .before .before .before .before .loop .inv .1, call (c .before .before .before .before .before .before .before .before .before .before .before .before .before .before .before .before .before .before) .good)
+mul-set-row c = omega (arith, next-fits (c .before .before .before .before .before .before .before .before .before .before .before .before .before .before), c .before .before .before .before .before .before .before .before .before .before .before .before .before .before .before .loop .inv .1, call (c .before .before .before .before .before .before .before .before .before .before .before .before .before .before .before .before) .good)
 
 sub-set-row : tie.Need-sub-set-row Inv-loop μ-loop
 sub-set-row c = search needs
@@ -79,21 +78,20 @@ part-set-row-start : tie.Need-part-set-row-start Inv-loop μ-loop
 part-set-row-start c = search needs
 
 part-set-row-end : tie.Need-part-set-row-end Inv-loop μ-loop
-part-set-row-end c = next-fits (c .before .before .before .before .before .before .before .before .before .before .before .before .before .before .before .before)
+part-set-row-end c = next-fits (c .before .before .before .before .before .before .before .before .before .before .before .before .before .before)
 
 set-row-requires : tie.Need-set-row-requires Inv-loop μ-loop
 set-row-requires c κs = (
-  row-asks (fixed (c .before .before .before .before .before .before .before .before .before .before .before .before .before .before .before .before .before .before .before)) _ _ _
+  row-asks (fixed (c .before .before .before .before .before .before .before .before .before .before .before .before .before .before .before .before .before)) _ _ _
       (record {
-        edges-length = c .before .before .before .before .before .before .before .set-row-arg4 .given .0;
-        offsets-length = c .before .before .before .before .before .set-row-arg6 .given .0;
-        bounds-length = c .before .before .before .set-row-arg8 .given .0;
-        table-length = c .before .before .before .before .before .before .before .before .before .set-row-arg2 .given .0;
+        edges-length = c .before .before .before .before .before .set-row-arg4 .given .0;
+        offsets-length = c .before .before .before .set-row-arg6 .given .0;
+        bounds-length = c .before .set-row-arg8 .given .0;
+        table-length = c .before .before .before .before .before .before .before .set-row-arg2 .given .0;
       })
-      (c .before .before .before .before .before .before .before .before .before .before .before .before .before .before .before .before .before .loop-test .taken) (c .before .before .before .before .before .before .before .before .before .before .before .before .before .before .place .ensures) (c .before .before .before .before .before .before .before .before .before .before .before .place2 .ensures),
-  steps-accepted (fixed (c .before .before .before .before .before .before .before .before .before .before .before .before .before .before .before .before .before .before .before) .accepted .thresholds-are),
-  part-long (c .before .before .before .before .before .before .before .before .before .before .before .before .before .before .before .before .before .before .loop .start) _ (c .before .before .before .before .before .before .before .before .before .before .before .before .before .before .before .before .before .before .loop .answers) (next-fits (c .before .before .before .before .before .before .before .before .before .before .before .before .before .before .before .before .before)),
-  lent-arrays (c .before .before .set-row-arg9 .given .0 .1) (c .before .set-row-arg10 .given .0 .1),
+      (c .before .before .before .before .before .before .before .before .before .before .before .before .before .before .before .loop-test .taken) (c .before .before .before .before .before .before .before .before .before .before .before .before .place .ensures) (c .before .before .before .before .before .before .before .before .before .place2 .ensures),
+  steps-accepted (fixed (c .before .before .before .before .before .before .before .before .before .before .before .before .before .before .before .before .before) .accepted .thresholds-are),
+  part-long (c .before .before .before .before .before .before .before .before .before .before .before .before .before .before .before .before .loop .start) _ (c .before .before .before .before .before .before .before .before .before .before .before .before .before .before .before .before .loop .answers) (next-fits (c .before .before .before .before .before .before .before .before .before .before .before .before .before .before .before)),
 )
 
 add-s : tie.Need-add-s Inv-loop μ-loop
@@ -104,9 +102,9 @@ loop-less c = search needs
 
 loop-again : tie.Need-loop-again Inv-loop μ-loop
 loop-again c = (
-  omega (arith, c .before .before .before .before .before .before .before .before .before .before .before .before .before .before .before .before .before .before .before .before .loop-test .taken),
-  c .before .answers .given .1 ∙ c .before .before .before .before .before .before .before .before .before .before .before .before .before .before .before .before .before .before .before .before .before .loop .inv .1,
-  set-written (fixed (c .before .before .before .before .before .before .before .before .before .before .before .before .before .before .before .before .before .before .before .before .before .before)) _ _ _ _ _ _ (c .before .before .before .before .before .before .before .before .before .before .before .before .before .before .before .before .before .before .before .before .loop-test .taken) (add-sub-cancel-left _ _) (c .before .before .before .before .before .before .before .before .before .before .before .before .before .before .before .before .before .place .ensures) (c .before .before .before .before .before .before .before .before .before .before .before .before .before .before .place2 .ensures) (c .before .before .set-row .ensures) (c .before .before .before .before .before .before .before .before .before .before .before .before .before .before .before .before .before .before .before .before .before .loop .inv .2),
+  omega (arith, c .before .before .before .before .before .before .before .before .before .before .before .before .before .before .before .before .before .before .loop-test .taken),
+  c .before .answers .given .1 ∙ c .before .before .before .before .before .before .before .before .before .before .before .before .before .before .before .before .before .before .before .loop .inv .1,
+  set-written (fixed (c .before .before .before .before .before .before .before .before .before .before .before .before .before .before .before .before .before .before .before .before)) _ _ _ _ _ _ (c .before .before .before .before .before .before .before .before .before .before .before .before .before .before .before .before .before .before .loop-test .taken) (add-sub-cancel-left _ _) (c .before .before .before .before .before .before .before .before .before .before .before .before .before .before .before .place .ensures) (c .before .before .before .before .before .before .before .before .before .before .before .before .place2 .ensures) (c .before .before .set-row .ensures) (c .before .before .before .before .before .before .before .before .before .before .before .before .before .before .before .before .before .before .before .loop .inv .2),
 )
 
 same-length : tie.Need-same-length Inv-loop μ-loop

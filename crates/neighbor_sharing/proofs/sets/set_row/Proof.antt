@@ -12,11 +12,10 @@ slice-aggregate-add-all-2 c = search needs
 
 add-all-requires : tie.Need-add-all-requires
 add-all-requires c κs = (
-  record { at = c .before .before .before .before .before .before .before .before .before .before .before .before .before .before .before .pre .0 .ready-at },
-  c .before .before .before .before .before .before .before .before .before .before .before .before .before .before .before .pre .1,
-  zeros _ 64 (c .before .before .before .before .before .before .before .before .before .before .before .before .before .before .before .pre .1 .few),
-  zeros _ 64 (c .before .before .before .before .before .before .before .before .before .before .before .before .before .before .before .pre .1 .few),
-  c .before .before .before .before .before .before .before .before .before .before .before .before .before .before .before .pre .3,
+  record { at = c .before .before .before .before .before .before .before .before .before .before .before .pre .0 .ready-at },
+  c .before .before .before .before .before .before .before .before .before .before .before .pre .1,
+  zeros _ 64 (c .before .before .before .before .before .before .before .before .before .before .before .pre .1 .few),
+  zeros _ 64 (c .before .before .before .before .before .before .before .before .before .before .before .pre .1 .few),
 )
 
 slice-aggregate-write-row : tie.Need-slice-aggregate-write-row
@@ -26,19 +25,13 @@ slice-aggregate-write-row-2 : tie.Need-slice-aggregate-write-row-2
 slice-aggregate-write-row-2 c = search needs
 
 write-row-requires : tie.Need-write-row-requires
-write-row-requires c κs = row-fits (c .before .before .before .before .before .before .before .before .before .before .before .before .before .before .before .before .before .before .before .before .before .before .before .before .before .pre .0) (c .before .before .before .before .before .before .before .before .before .add-all .ensures) (c .before .before .before .before .before .before .before .before .before .before .before .before .before .before .before .before .before .before .before .before .before .before .before .before .before .pre .1) _ (c .before .before .before .before .before .before .before .before .before .before .before .before .before .before .before .before .before .before .before .before .before .before .before .before .before .pre .2)
+write-row-requires c κs = row-fits (c .before .before .before .before .before .before .before .before .before .before .before .before .before .before .before .before .before .pre .0) (c .before .before .before .before .before .add-all .ensures) (c .before .before .before .before .before .before .before .before .before .before .before .before .before .before .before .before .before .pre .1) _ (c .before .before .before .before .before .before .before .before .before .before .before .before .before .before .before .before .before .pre .2)
 
 same-length : tie.Need-same-length
-same-length c = c .before .before .before .before .before .before .before .before .before .before .before .positions .given
-
-same-length-2 : tie.Need-same-length-2
-same-length-2 c = c .before .before .before .before .before .before .before .before .before .moves .given
-
-same-length-3 : tie.Need-same-length-3
-same-length-3 c = c .before .row .given
+same-length c = c .before .row .given
 
 returns : tie.Need-returns
-returns c = row-is (c .before .before .before .before .before .before .before .before .before .before .before .before .before .before .before .before .before .before .before .before .before .before .before .before .before .before .before .before .pre .0) (c .before .before .before .before .before .before .before .before .before .before .before .before .add-all .ensures) _ _ (c .before .before .before .before .before .before .before .before .before .before .before .before .before .before .before .before .before .before .before .before .before .before .before .before .before .before .before .before .pre .2) (c .before .row .given) (c .before .before .write-row .ensures)
+returns c = row-is (c .before .before .before .before .before .before .before .before .before .before .before .before .before .before .before .before .before .before .before .before .pre .0) (c .before .before .before .before .before .before .before .before .add-all .ensures) _ _ (c .before .before .before .before .before .before .before .before .before .before .before .before .before .before .before .before .before .before .before .before .pre .2) (c .before .row .given) (c .before .before .write-row .ensures)
 
 pub set-row-spec : {M : Type 1} → statement M
 set-row-spec =
@@ -51,6 +44,4 @@ set-row-spec =
     slice-aggregate-write-row-2
     write-row-requires
     same-length
-    same-length-2
-    same-length-3
     returns)

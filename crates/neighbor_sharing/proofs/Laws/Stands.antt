@@ -1,0 +1,147 @@
+-- The six cursors, moved from event to event, stand where the definitions say, and what is reached is added up.
+use mathlib.Core.Bool.{Bool, true, false, cond}
+use mathlib.Core.List.{List}
+use mathlib.Core.Path.{_≡_, _∙_, refl, ap}
+use Prim.Native.Nat.{ℕ, _+_, _*_, _≤_, _<_}
+use native.Mathlib.Omega.{arith}
+use lib.ListN.{length, getD}
+use Rattle.model.specs.Counting.{sumBelow}
+use Rattle.model.specs.Location.{Side, at-first, at-second}
+use Rattle.model.proofs.Laws.Counting.{sum-next}
+use Rattle.neighbor_sharing.proofs.Laws.Kinds.{route-or-none-standing, route-or-none-falling, below-standing, up-to-standing}
+use Rattle.neighbor_sharing.proofs.Laws.Moving.{at-most}
+use Rattle.neighbor_sharing.proofs.Laws.OneWay.{rest-in, from-rest}
+use Rattle.neighbor_sharing.proofs.Laws.Positions.{position-on, position-in, below-on, up-to-on}
+use Rattle.neighbor_sharing.specs.Cursors.{position, below, upTo, rest}
+use Rattle.neighbor_sharing.specs.Joined.{joinedOf, joinedFrom, sweptSum}
+use Rattle.neighbor_sharing.specs.Six.{decoded, codeBetween, distanceBetween, EdgesLaid}
+use Rattle.neighbor_sharing.specs.Stands.{routeStand, standsAt, standsAtRest, standOf, RouteMovable, StandsMovable}
+use Rattle.neighbor_sharing.specs.Sweeping.{sideOf, standing, routeOrNone, belowCursor, upToCursor, Ordered, Small, Movable}
+use Rattle.neighbor_sharing.specs.declared.cursor.Cursor.{Cursor}
+use Rattle.neighbor_sharing.specs.declared.moving.Stands.{Stands}
+use Rattle.neighbor_sharing.specs.declared.sweep.Edges.{Edges}
+
+module _ (t : ℕ) (w : Edges) (ys : List ℕ) (x : ℕ) where
+  -- the cursor of a route
+  module _ (first1 first2 : Bool) (code : ℕ) (c : Cursor) (told : code ≡ codeBetween w (sideOf first1) (sideOf first2)) (made : c ≡ routeOrNone t (w .long1) first1 code first2) where
+    pub route-stands : x ≤ w .long1 → standing c (w .long2) ys x ≡ routeStand t w (sideOf first1) (sideOf first2) ys x
+    unfolding routeStand distanceBetween
+    route-stands h =
+        ap (λ (k : Cursor). standing k (w .long2) ys x) made
+        ∙ route-or-none-standing t (w .long1) (w .long2) code first1 first2 ys x h
+        ∙ ap (λ (k : ℕ). position t (w .long1) (sideOf first1) (decoded k) (w .long2) (sideOf first2) ys x) told
+
+    pub route-can : Small c → {from : ℕ} → RouteMovable t w (sideOf first1) (sideOf first2) ys x from → Movable c (w .long2) ys x from
+    route-can small asked =
+        record {
+          small = small;
+          ordered = asked .ordered;
+          position-in = asked .from-in;
+          onward = rw (route-stands (asked .on-edge), ap (λ (k : Cursor). k .falling) made ∙ route-or-none-falling t (w .long1) first1 code first2) (asked .onward);
+        }
+
+  -- a cursor of the window
+  rising-can : (c : Cursor) → c .falling ≡ false → Small c → Ordered ys → (q from to : ℕ) → standing c q ys x ≡ to → from ≤ to → Movable c q ys x from
+  unfolding sideOf
+  rising-can c up small o q from to e h =
+      record { small = small; ordered = o; position-in = omega (arith, at-most c q ys x); onward = rw (e, up) h }
+
+  low-stands : {c : Cursor} → c ≡ belowCursor t → (q : ℕ) → standing c q ys x ≡ below t ys x
+  low-stands made q = ap (λ (k : Cursor). standing k q ys x) made ∙ below-standing t q ys x
+
+  high-stands : {c : Cursor} → c ≡ upToCursor t → (q : ℕ) → standing c q ys x ≡ upTo t ys x
+  high-stands made q = ap (λ (k : Cursor). standing k q ys x) made ∙ up-to-standing t q ys x
+
+  pub low-can : {c : Cursor} → c ≡ belowCursor t → Small c → {from : Stands} → StandsMovable t w ys x from → Movable c (w .long2) ys x (from .low)
+  unfolding belowCursor
+  low-can {c} made small asked =
+      rising-can c (ap (λ (k : Cursor). k .falling) made) small (asked .ordered) (w .long2) _ _ (low-stands made (w .long2)) (asked .low-on)
+
+  pub high-can : {c : Cursor} → c ≡ upToCursor t → Small c → {from : Stands} → StandsMovable t w ys x from → Movable c (w .long2) ys x (from .high)
+  unfolding upToCursor
+  high-can {c} made small asked =
+      rising-can c (ap (λ (k : Cursor). k .falling) made) small (asked .ordered) (w .long2) _ _ (high-stands made (w .long2)) (asked .high-on)
+
+  -- all six
+  pub all-stand : {lower upper : Cursor} → lower ≡ belowCursor t → upper ≡ upToCursor t → {ff fs sf ss low high : ℕ} → ff ≡ routeStand t w at-first at-first ys x → fs ≡ routeStand t w at-first at-second ys x → sf ≡ routeStand t w at-second at-first ys x → ss ≡ routeStand t w at-second at-second ys x → low ≡ cond (w .same) (standing lower (w .long2) ys x) 0 → high ≡ cond (w .same) (standing upper (w .long2) ys x) 0 → _≡_ {A = Stands} (record { ff = ff; fs = fs; sf = sf; ss = ss; low = low; high = high }) (standsAt t w ys x)
+  unfolding standsAt
+  all-stand is-lower is-upper a b c d e f =
+      let low-is = e ∙ ap (λ (n : ℕ). cond (w .same) n 0) (low-stands is-lower (w .long2)) in
+      let high-is = f ∙ ap (λ (n : ℕ). cond (w .same) n 0) (high-stands is-upper (w .long2)) in
+      λ k. record { ff = a k; fs = b k; sf = c k; ss = d k; low = low-is k; high = high-is k }
+
+-- where a route's cursor rests, and where it stands
+rests : (ys : List ℕ) (s s′ : Side) → standOf (standsAtRest ys) s s′ ≡ rest s ys
+unfolding standOf standsAtRest
+rests ys at-first at-first = refl
+rests ys at-first at-second = refl
+rests ys at-second at-first = refl
+rests ys at-second at-second = refl
+
+stood : (t : ℕ) (w : Edges) (ys : List ℕ) (x : ℕ) (s s′ : Side) → standOf (standsAt t w ys x) s s′ ≡ routeStand t w s s′ ys x
+unfolding standOf standsAt
+stood t w ys x at-first at-first = refl
+stood t w ys x at-first at-second = refl
+stood t w ys x at-second at-first = refl
+stood t w ys x at-second at-second = refl
+
+cond-less : (b : Bool) (m n : ℕ) → m ≤ n → cond b m 0 ≤ n
+cond-less true m n h = h
+cond-less false m n h = omega arith
+
+module _ (t : ℕ) (w : Edges) (ys : List ℕ) (o : Ordered ys) where
+  -- from rest to any offset, and from one to a later one
+  rest-can : (x : ℕ) → x ≤ w .long1 → StandsMovable t w ys x (standsAtRest ys)
+  unfolding standsAtRest routeStand
+  rest-can x h =
+      record {
+        ordered = o;
+        routes-can = λ s s′. rw (rests ys s s′) (record { ordered = o; on-edge = h; from-in = rest-in s ys; onward = from-rest s _ ys (position-in t (w .long1) (distanceBetween w s s′) (w .long2) s′ ys s x) });
+        low-on = omega arith;
+        high-on = omega arith;
+      }
+
+  later-can : (x y : ℕ) → x ≤ y → y ≤ w .long1 → StandsMovable t w ys y (standsAt t w ys x)
+  unfolding standsAt routeStand
+  later-can x y h l =
+      record {
+        ordered = o;
+        routes-can = λ s s′. rw (stood t w ys x s s′) (record { ordered = o; on-edge = l; from-in = position-in t (w .long1) (distanceBetween w s s′) (w .long2) s′ ys s x; onward = position-on t (w .long1) (distanceBetween w s s′) (w .long2) s′ ys s x y h });
+        low-on = cond-less (w .same) _ _ (below-on t ys x y h);
+        high-on = cond-less (w .same) _ _ (up-to-on t ys x y h);
+      }
+
+module _ (t : ℕ) (w : Edges) (xs ys : List ℕ) where
+  -- the loop's invariant: the cursors may move on to any event that is left, and what was reached is added up
+  pub record Counted (i : ℕ) (m : Stands) (total : ℕ) : Type 0 where
+    pub i-in : i ≤ length xs
+    pub can : (j : ℕ) → i ≤ j → j < length xs → StandsMovable t w ys (getD xs j 0) m
+    pub total-is : total ≡ sumBelow i (λ k. joinedFrom t w ys (getD xs k 0))
+    pub total-few : total ≤ 8192 * i
+
+  pub none-counted : EdgesLaid w xs ys → {m : Stands} → m ≡ standsAtRest ys → Counted 0 m 0
+  unfolding sumBelow
+  none-counted laid e =
+      record {
+        i-in = omega arith;
+        can = λ j h l. rw e (rest-can t w ys (laid .second-laid .ordered) (getD xs j 0) (laid .first-laid .on-edge j l));
+        total-is = refl;
+        total-few = omega arith;
+      }
+
+  pub one-counted : EdgesLaid w xs ys → {i : ℕ} {m m′ : Stands} {total r : ℕ} → Counted i m total → i < length xs → m′ ≡ standsAt t w ys (getD xs i 0) → r ≡ joinedOf (length ys) m′ → r ≤ length ys → Counted (i + 1) m′ (total + r)
+  unfolding joinedFrom
+  one-counted laid {i} {m} {m′} {total} {r} so-far h moved found few =
+      let here : r ≡ joinedOf (length ys) (standsAt t w ys (getD xs i 0)) = found ∙ ap (joinedOf (length ys)) moved in
+      record {
+        i-in = omega arith;
+        can = λ j l k. rw moved (later-can t w ys (laid .second-laid .ordered) (getD xs i 0) (getD xs j 0) (laid .first-laid .ordered .in-order i j (omega arith) k) (laid .first-laid .on-edge j k));
+        total-is = omega (arith, so-far .total-is, sum-next (λ k. joinedFrom t w ys (getD xs k 0)) i);
+        total-few = omega (arith, so-far .total-few, laid .second-laid .few);
+      }
+
+  pub all-counted : EdgesLaid w xs ys → {i : ℕ} {m : Stands} {total : ℕ} → Counted i m total → length xs ≤ i → (total ≡ sweptSum t w xs ys) × (total ≤ 67108864)
+  unfolding sweptSum
+  all-counted laid {i} so-far h =
+      let end : i ≡ length xs = omega (arith, so-far .i-in) in
+      (so-far .total-is ∙ ap (λ (n : ℕ). sumBelow n (λ k. joinedFrom t w ys (getD xs k 0))) end, omega (arith, so-far .total-few, laid .first-laid .few))

@@ -1,0 +1,88 @@
+// Where the six cursors of two edges stand at an offset of the first, moved on from where they stood before.
+use crate::cursor::Cursor;
+use crate::cursor::advance;
+use crate::cursor::below;
+use crate::cursor::route_or_none;
+use crate::cursor::up_to;
+use crate::sweep::Edges;
+use crate::sweep::code_between;
+ghost use mathlib.Core.Bool.{cond};
+ghost use mathlib.Core.Path.{_≡_};
+ghost use Rattle.neighbor_sharing.specs.Stands.{routeStand, standsAt, standsAtRest, RouteMovable, StandsMovable};
+ghost use Rattle.neighbor_sharing.specs.Sweeping.{sideOf, standing, Movable};
+
+// The positions of the four routes' cursors, from the first edge's ends to the second's, and of the window's two.
+pub struct Stands {
+    pub ff: usize,
+    pub fs: usize,
+    pub sf: usize,
+    pub ss: usize,
+    pub low: usize,
+    pub high: usize,
+}
+
+// Before the first event.
+pub(crate) fn at_rest(ys: &[u32]) -> Stands
+    ensures { λ r. ⌜ r ≡ standsAtRest (now (ys .entry)) ⌝ }
+{
+    Stands {
+        ff: ys.len(),
+        fs: ys.len(),
+        sf: 0,
+        ss: 0,
+        low: 0,
+        high: 0,
+    }
+}
+
+// Moves the cursor of a route to an offset of the first edge.
+fn route_to(
+    threshold: u32,
+    edges: Edges,
+    first1: bool,
+    first2: bool,
+    ys: &[u32],
+    x: u32,
+    from: usize,
+) -> usize
+    requires { ⌜ RouteMovable threshold edges (sideOf first1) (sideOf first2) (now ys) x from ⌝ }
+    ensures { λ r. ⌜ r ≡ routeStand threshold edges (sideOf first1) (sideOf first2) (now (ys .entry)) x ⌝ }
+{
+    let code = code_between(edges, first1, first2);
+    let cursor = route_or_none(threshold, edges.long1, first1, code, first2);
+    advance(cursor, ys, edges.long2, x, from)
+}
+
+// The same for a cursor of the window. On two edges there is none, which counts as position 0.
+fn window_to(same: bool, cursor: Cursor, ys: &[u32], long: u32, x: u32, from: usize) -> usize
+    requires { ⌜ Movable cursor long (now ys) x from ⌝ }
+    ensures { λ r. ⌜ r ≡ cond same (standing cursor long (now (ys .entry)) x) 0 ⌝ }
+{
+    if !same {
+        return 0;
+    }
+    advance(cursor, ys, long, x, from)
+}
+
+// All six.
+pub(crate) fn move_to(threshold: u32, edges: Edges, ys: &[u32], x: u32, from: Stands) -> Stands
+    requires { ⌜ StandsMovable threshold edges (now ys) x from ⌝ }
+    ensures { λ r. ⌜ r ≡ standsAt threshold edges (now (ys .entry)) x ⌝ }
+{
+    let ff = route_to(threshold, edges, true, true, ys, x, from.ff);
+    let fs = route_to(threshold, edges, true, false, ys, x, from.fs);
+    let sf = route_to(threshold, edges, false, true, ys, x, from.sf);
+    let ss = route_to(threshold, edges, false, false, ys, x, from.ss);
+    let lower = below(threshold);
+    let low = window_to(edges.same, lower, ys, edges.long2, x, from.low);
+    let upper = up_to(threshold);
+    let high = window_to(edges.same, upper, ys, edges.long2, x, from.high);
+    Stands {
+        ff,
+        fs,
+        sf,
+        ss,
+        low,
+        high,
+    }
+}
