@@ -1,7 +1,6 @@
 -- Entries and refusals as answers.
-use mathlib.Core.Path.{_≡_, _∙_, refl, sym, ap}
-use Prim.Native.Nat.{ℕ, zero, suc}
-use native.Mathlib.Omega.{arith}
+use mathlib.Core.Path.{_≡_, _∙_, sym}
+use Prim.Native.Nat.{ℕ, suc}
 use Rattle.model.proofs.Laws.Within.{code-unique}
 use Rattle.model.specs.Distance.{Distance, metres, none, code}
 use Rattle.model.specs.declared.check.Check.{Check}

@@ -1,10 +1,10 @@
 -- Rows of entries: how one is copied, and that it is the row of distances.
 use mathlib.Core.List.{List, [], _∷_, _++_, map}
 use mathlib.Core.Path.{_≡_, _∙_, refl, sym, ap}
-use Prim.Native.Nat.{ℕ, zero, suc, _+_, _≤_, _<_}
+use Prim.Native.Nat.{ℕ, zero, suc, _+_, _<_}
 use native.Mathlib.Numerals.{add-one}
 use native.Mathlib.Omega.{arith}
-use lib.ListN.{length, getD, take, drop, set, length-take, length-drop, length-map}
+use lib.ListN.{length, getD, take, drop, set, length-drop, length-map}
 use lib.Seq.{drop-cons, take-suc, append-snoc, set-at, length-take-le, getD-take, getD-drop}
 use Rattle.model.proofs.Laws.Lists.{numbers-length}
 use Rattle.model.specs.Counting.{numbersFrom}

@@ -1,14 +1,13 @@
 -- Why the nearest waiting node is exact: no walk reaches a node without passing one that waits, or the node is settled.
 use mathlib.Core.List.{List}
 use mathlib.Core.Logic.{_⊎_, inl, inr}
-use mathlib.Core.Path.{_≡_, _∙_, refl, sym, ap, subst}
+use mathlib.Core.Path.{_≡_, ap, subst}
 use Prim.Native.Nat.{ℕ, suc, _+_, _≤_, _<_, _/_}
 use native.Mathlib.Omega.{arith}
-use lib.ListN.{length, getD}
-use Rattle.model.specs.Network.{Network, IsNode, edges, size}
-use Rattle.model.specs.Walk.{Walk, here, onward, Joins}
-use Rattle.distance.specs.Arcs.{tail}
-use Rattle.distance.specs.Search.{InFront, at, Followed, Settled, Status, waiting, settled, followed, State}
+use lib.ListN.{getD}
+use Rattle.model.specs.Network.{Network, size}
+use Rattle.model.specs.Walk.{Walk, here, onward}
+use Rattle.distance.specs.Search.{at, Settled, Status, waiting, settled, followed, State}
 use Rattle.distance.proofs.Ways.{Arc, arc-of}
 
 -- some waiting node's entry is at most n metres

@@ -1,11 +1,8 @@
 -- Entries of routes: the lesser of two, one with its gaps, and the least of all.
-use mathlib.Core.Bool.{cond, true, false}
-use mathlib.Core.List.{List, [], _∷_}
 use mathlib.Core.Path.{_≡_, _∙_, refl, sym, ap, subst}
-use Prim.Native.Nat.{ℕ, suc, pred, _+_, _*_, _-_, _≤_, _<_, min}
+use Prim.Native.Nat.{ℕ, pred, _+_, _-_, _≤_, _<_}
 use native.Mathlib.Omega.{arith}
 use borrow.Author.Tests.{eq-eqb, ne-eqb}
-use lib.Dec.{eqb}
 use lib.ListN.{length}
 use Rattle.model.proofs.Laws.Checks.{IsNetwork, LocationsAccepted, network-accepted, network-accepts}
 use Rattle.model.proofs.Laws.Distance.{least-none, least-comm}
@@ -14,8 +11,7 @@ use Rattle.model.specs.Distance.{Distance, metres, none, least, plus, leastOf, 
 use Rattle.model.specs.Events.{event, IsEvent}
 use Rattle.model.specs.Limits.{maxLength, maxNodes}
 use Rattle.model.specs.Location.{End, end, edgeEnds, route, routes, edgeDistance, locationOf, locationDistance}
-use Rattle.model.specs.Network.{Network, IsNode, edges, first, second, size}
-use Rattle.model.specs.NodeDistance.{nodeDistance}
+use Rattle.model.specs.Network.{Network, IsNode, first, second, size}
 use Rattle.distance.specs.Routes.{fromEnd, alongEdge, OnEdge}
 
 -- the lesser of two entries

@@ -2,13 +2,13 @@
 use mathlib.Core.List.{List}
 use mathlib.Core.Logic.{_⊎_, inl, inr, ⊎-elim}
 use mathlib.Core.Path.{_≡_, _∙_, refl, sym, ap}
-use Prim.Native.Nat.{ℕ, suc, pred, _+_, _*_, _≤_, _<_}
+use Prim.Native.Nat.{ℕ, suc, pred, _*_, _≤_, _<_}
 use native.Mathlib.Decide.{ℕ-discrete, decLe}
 use native.Mathlib.Omega.{arith}
-use lib.ListN.{length, getD}
+use lib.ListN.{getD}
 use Rattle.model.proofs.Laws.Least.{least-unique}
 use Rattle.model.proofs.Laws.NodeDistance.{node-distance, bounded-distance}
-use Rattle.model.specs.Distance.{Distance, metres, none, code}
+use Rattle.model.specs.Distance.{code}
 use Rattle.model.specs.Limits.{maxLength, maxNodes}
 use Rattle.model.specs.Network.{Network, EndsAreNodes}
 use Rattle.model.specs.NodeDistance.{nodeDistance, boundedDistance}

@@ -1,18 +1,15 @@
 -- The verdicts on lent lists and answer lists, and what an answer list then holds.
-use mathlib.Core.Bool.{Bool, true, false, cond}
-use mathlib.Core.List.{List, _++_}
+use mathlib.Core.List.{List}
 use mathlib.Core.Path.{_≡_, _∙_, refl, sym, ap}
 use Prim.Native.Nat.{ℕ, _≤_, _<_}
-use lib.Dec.{eqb, leb}
-use lib.ListN.{length, drop}
+use lib.ListN.{length}
 use borrow.Author.Tests.{le-leb, lt-leb, leb-true}
 use Rattle.model.proofs.Laws.CheckParts.{lists-first}
 use Rattle.model.proofs.Laws.Checks.{NodesAccepted, nodes-accepted}
 use Rattle.model.proofs.Laws.Refusal.{both-accepted, unless-accepted, or-else-next, or-else-refused, unless-accepts, unless-refuses}
-use Rattle.model.specs.Answer.{written}
-use Rattle.model.specs.Checks.{networkLists, networkValues, sameLength, roomCheck, loneNodeCheck, nodesOverNetworkCheck}
+use Rattle.model.specs.Checks.{networkLists, networkValues, roomCheck, loneNodeCheck, nodesOverNetworkCheck}
 use Rattle.model.specs.Network.{Network}
-use Rattle.model.specs.Refusal.{orElse, unless, listsDiffer}
+use Rattle.model.specs.Refusal.{orElse, listsDiffer}
 use Rattle.model.specs.declared.check.Check.{Check}
 use Rattle.model.specs.declared.check.Check.the-variants.{Accepted, Refused}
 use Rattle.distance.specs.Answers.{rowCheck}

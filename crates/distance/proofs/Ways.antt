@@ -1,15 +1,12 @@
 -- Arcs and edges: each arc is an edge taken one way, each way of an edge is an arc; and where a node's chain of arcs leads.
-use mathlib.Core.Bool.{Bool, true, false, cond}
 use mathlib.Core.List.{List}
-use mathlib.Core.Logic.{_≢_}
 use mathlib.Core.Path.{_≡_, _∙_, refl, sym, ap, subst}
 use Prim.Native.Nat.{ℕ, zero, suc, _+_, _/_, _%_, _≤_, _<_}
 use native.Mathlib.Decide.{ℕ-discrete}
 use native.Mathlib.Omega.{arith}
-use borrow.Author.Tests.{eq-eqb, ne-eqb, eqb-true, eqb-false}
-use lib.Dec.{eqb}
-use lib.ListN.{length, getD}
-use Rattle.model.specs.Network.{Network, edges, first, second, size}
+use borrow.Author.Tests.{eq-eqb, ne-eqb}
+use lib.ListN.{getD}
+use Rattle.model.specs.Network.{Network, edges}
 use Rattle.model.specs.Walk.{Joins, forward, backward}
 use Rattle.distance.specs.Arcs.{tail, lastArc}
 

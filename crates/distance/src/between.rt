@@ -3,7 +3,7 @@ ghost use mathlib.Core.Path.{_≡_};
 ghost use Prim.Native.Nat.{_≤_};
 ghost use Rattle.model.specs.Checks.{nodesOverNetworkCheck};
 ghost use Rattle.model.specs.Distance.{Distance, code};
-ghost use Rattle.model.specs.Network.{network, IsNode};
+ghost use Rattle.model.specs.Network.{network};
 ghost use Rattle.model.specs.declared.check.Check.the-variants.{Accepted};
 ghost use Rattle.distance.specs.Answers.{lengthAnswer, boundedAnswer, nodeAnswer, boundedNodeAnswer};
 ghost use Rattle.distance.specs.Search.{Askable, Found};

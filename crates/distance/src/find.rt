@@ -1,5 +1,4 @@
 // One search with room of its own.
-ghost use mathlib.Core.Path.{_≡_};
 ghost use Rattle.model.specs.Network.{network};
 ghost use Rattle.distance.specs.Search.{Askable, Rooms, Searched};
 use crate::arcs::link;

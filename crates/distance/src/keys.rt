@@ -24,7 +24,7 @@ pub(crate) fn place_of(key: u64) -> usize
 }
 
 // A value and not a place, so that it compiles to a conditional move.
-fn lesser(one: u64, other: u64) -> u64
+pub(crate) fn lesser(one: u64, other: u64) -> u64
     ensures { λ r. ⌜ Lesser one other r ⌝ }
 {
     if other < one { other } else { one }
@@ -40,30 +40,16 @@ fn least_of_four(keys: &[u64], len: usize, at: usize) -> u64
     lesser(one, other)
 }
 
-// The least of the keys up to the last full four.
-fn least_of_fours(keys: &[u64], len: usize) -> u64
-    requires { ⌜ (1 ≤ len) × (len ≤ length (now keys)) ⌝ }
-    ensures { λ r. ⌜ Least (now (keys .entry)) len 0 (len / 4 * 4) r ⌝ }
+// The least of the keys up to the last full four; any key where there is none.
+pub(crate) fn least_of_fours(keys: &[u64], len: usize) -> u64
+    requires { ⌜ (1 ≤ length (now keys)) × (len ≤ length (now keys)) ⌝ }
+    ensures { λ r. ⌜ (1 ≤ len → Least (now (keys .entry)) len 0 (len / 4 * 4) r) ⌝ }
 {
     let fours = len / 4;
     let mut least = keys[0];
     let mut k = 0;
     while k < fours {
         least = lesser(least, least_of_four(keys, len, k * 4));
-        k += 1;
-    }
-    least
-}
-
-// The least of the first keys: by fours, then the up to three that are left.
-pub(crate) fn least_key(keys: &[u64], len: usize) -> u64
-    requires { ⌜ (1 ≤ len) × (len ≤ length (now keys)) ⌝ }
-    ensures { λ r. ⌜ Least (now (keys .entry)) len 0 len r ⌝ }
-{
-    let mut least = least_of_fours(keys, len);
-    let mut k = len / 4 * 4;
-    while k < len {
-        least = lesser(least, keys[k]);
         k += 1;
     }
     least

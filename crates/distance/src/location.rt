@@ -5,7 +5,7 @@ ghost use lib.ListN.{length};
 ghost use Rattle.model.specs.Distance.{Distance, metres, plus, least, code};
 ghost use Rattle.model.specs.Limits.{maxLength, maxNodes};
 ghost use Rattle.model.specs.Location.{end, edgeDistance};
-ghost use Rattle.model.specs.Network.{network, IsNode};
+ghost use Rattle.model.specs.Network.{network};
 ghost use Rattle.distance.specs.Answers.{locationAnswer};
 ghost use Rattle.distance.specs.Routes.{fromEnd, alongEdge, OnEdge};
 ghost use Rattle.distance.specs.Search.{Askable};

@@ -12,7 +12,8 @@ use crate::front::offer;
 use crate::front::remove;
 use crate::keys::entry_of;
 use crate::keys::key_of;
-use crate::keys::least_key;
+use crate::keys::least_of_fours;
+use crate::keys::lesser;
 use crate::keys::place_of;
 use model::Network;
 
@@ -56,7 +57,8 @@ pub(crate) fn search(
     );
 }
 
-// Waiting nodes stand in the front in any order; each pick settles the nearest of them, which has the least key.
+// Waiting nodes stand in the front in any order; each pick settles the nearest of them, which has the least key: by fours, then the
+// up to three that are left.
 fn search_with(
     nodes: u32,
     firsts: &[u32],
@@ -82,14 +84,22 @@ fn search_with(
     slots[source as usize] = 0;
     let mut len = 1;
     let mut picked: usize = 0;
-    let stop = loop {
-        if len == 0 {
-            break Stop::Exhausted;
+    let stop = 'picking: loop {
+        let mut key = least_of_fours(keys, len);
+        let mut k = len / 4 * 4;
+        loop {
+            if k == len {
+                if len == 0 {
+                    break 'picking Stop::Exhausted;
+                }
+                break;
+            }
+            key = lesser(key, keys[k]);
+            k += 1;
         }
-        let key = least_key(keys, len);
         let least = entry_of(key);
         if bound < least - 1 {
-            break Stop::Beyond;
+            break 'picking Stop::Beyond;
         }
         let best = place_of(key);
         let v = front[best];

@@ -8,7 +8,7 @@ use Rattle.distance.proofs.keys.least_of_fours.Statement.{statement}
 use Rattle.distance.proofs.keys.least_of_fours.Tie as tie
 
 abbrev Inv-loop : tie.InvT-loop
-Inv-loop keys len fours least₀ k₀ least k = (k ≤ fours) × Least keys len 0 (k * 4) least
+Inv-loop keys len fours least₀ k₀ least k = (k ≤ fours) × (1 ≤ len → Least keys len 0 (k * 4) least)
 
 abbrev μ-loop : tie.MeasureT-loop
 μ-loop keys len fours least₀ k₀ least k = fours - k
@@ -17,7 +17,7 @@ shared-slice-read-least : tie.Need-shared-slice-read-least Inv-loop μ-loop
 shared-slice-read-least c = search needs
 
 loop-holds : tie.Need-loop-holds Inv-loop μ-loop
-loop-holds c = (search needs, no-key _ _ (c .before .before .pre .0))
+loop-holds c = (search needs, λ some. no-key _ _ some)
 
 mul-least-of-four : tie.Need-mul-least-of-four Inv-loop μ-loop
 mul-least-of-four c = search needs
@@ -35,10 +35,10 @@ loop-less : tie.Need-loop-less Inv-loop μ-loop
 loop-less c = search needs
 
 loop-again : tie.Need-loop-again Inv-loop μ-loop
-loop-again c = (search needs, ends-at (join (c .before .before .before .loop .inv .1) (c .before .least-of-four .ensures) (c .lesser .ensures)) (omega arith))
+loop-again c = (search needs, λ some. ends-at (join (c .before .before .before .loop .inv .1 some) (c .before .least-of-four .ensures) (c .lesser .ensures)) (omega arith))
 
 returns : tie.Need-returns Inv-loop μ-loop
-returns c = ends-at (c .before .loop .inv .1) (omega arith)
+returns c = λ some. ends-at (c .before .loop .inv .1 some) (omega arith)
 
 pub least-of-fours-spec : {M : Type 1} → statement M
 least-of-fours-spec =
