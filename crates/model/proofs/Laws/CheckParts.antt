@@ -1,12 +1,12 @@
--- What acceptance by the check of each number means.
-use mathlib.Core.Bool.{true, false}
+-- What acceptance by the check of each number means, and (`..-accept`) that it asks nothing more.
+use mathlib.Core.Bool.{true, false, not}
 use mathlib.Core.List.{List, [], _∷_}
-use mathlib.Core.Path.{_≡_, _∙_}
-use Prim.Native.Nat.{ℕ, suc, pred, _≤_, _<_}
+use mathlib.Core.Path.{_≡_, _∙_, ap}
+use Prim.Native.Nat.{ℕ, zero, suc, pred, _≤_, _<_}
 use native.Mathlib.Omega.{arith}
-use borrow.Author.Tests.{eqb-true, eqb-false, eq-eqb, ne-eqb, leb-true, ltb-true, not-true}
+use borrow.Author.Tests.{eqb-true, eqb-false, eq-eqb, ne-eqb, leb-true, le-leb, ltb-true, lt-ltb, not-true}
 use lib.ListN.{length, getD}
-use Rattle.model.proofs.Laws.Refusal.{Between, both-accepted, both-accept, both-true, or-else-assoc, two-or-accepted, unless-accepted, unless-accepts, between-true, true-between, good-at, good-below, below-good}
+use Rattle.model.proofs.Laws.Refusal.{Between, both-accepted, both-accept, both-true, or-else-assoc, two-or-accepted, unless-accepted, unless-accepts, between-true, true-between, all-good, good-at, good-below, below-good, good-behind, behind-good}
 use Rattle.model.specs.Checks.{sameLength, roomCheck, sizesCheck, nodesCheck, selfCheck, lengthsCheck, setsCheck, edgesCheck, offsetsCheck, eventsCheck, equalSetsCheck, orderCheck, thresholdCountCheck, risingCheck, loneNodeCheck, loneEdgeCheck, loneOffsetCheck, networkLists, eventLists, setLists}
 use Rattle.model.specs.Events.{event, events, InOrder, empty, one, more, before, setSize, greatestSet}
 use Rattle.model.specs.Limits.{maxNodes, maxEdges, maxLength, maxEvents, maxSet, maxThresholds}
@@ -50,6 +50,10 @@ set-lists-accepted sets es xs e =
     let both = both-accepted _ _ e in
     (same-length-accepted _ _ (both .0), same-length-accepted _ _ (both .1))
 
+pub set-lists-accept : (sets es xs : List ℕ) → length sets ≡ length es → length es ≡ length xs → setLists sets es xs ≡ Accepted
+unfolding setLists eventLists
+set-lists-accept sets es xs s e = both-accept (same-length-accepts _ _ s) (same-length-accepts _ _ e)
+
 -- 6
 pub sizes-accepted : (nodes edges : ℕ) → sizesCheck nodes edges ≡ Accepted → Between 1 maxNodes nodes × Between 1 maxEdges edges
 unfolding sizesCheck
@@ -73,6 +77,10 @@ true-node net v n = true-between 1 (net .nodes) v (n .from-one) (n .to-nodes)
 pub lone-node-accepted : (net : Network) (v : ℕ) → loneNodeCheck net v ≡ Accepted → IsNode net v
 unfolding loneNodeCheck
 lone-node-accepted net v e = node-true net v (unless-accepted _ badNode 0 e)
+
+pub lone-node-accept : (net : Network) (v : ℕ) → IsNode net v → loneNodeCheck net v ≡ Accepted
+unfolding loneNodeCheck
+lone-node-accept net v n = unless-accepts _ badNode 0 (true-node net v n)
 
 pub ends-accepted : (net : Network) → nodesCheck net ≡ Accepted → EndsAreNodes net
 unfolding nodesCheck
@@ -110,38 +118,71 @@ pub lone-edge-accepted : (net : Network) (edge : ℕ) → loneEdgeCheck net edge
 unfolding loneEdgeCheck
 lone-edge-accepted net edge e = between-true 1 (edges net) edge (unless-accepted _ noEdge 0 e)
 
+pub lone-edge-accept : (net : Network) (edge : ℕ) → Between 1 (edges net) edge → loneEdgeCheck net edge ≡ Accepted
+unfolding loneEdgeCheck
+lone-edge-accept net edge b = unless-accepts _ noEdge 0 (true-between 1 (edges net) edge (b .from) (b .to))
+
 pub edges-accepted : (net : Network) (es : List ℕ) → edgesCheck net es ≡ Accepted → (k : ℕ) → k < length es → Between 1 (edges net) (getD es k 0)
 unfolding edgesCheck
 edges-accepted net es e k h = between-true 1 (edges net) (getD es k 0) (good-below noEdge _ (length es) e k h)
+
+pub edges-accept : (net : Network) (es : List ℕ) → ((k : ℕ) → k < length es → Between 1 (edges net) (getD es k 0)) → edgesCheck net es ≡ Accepted
+unfolding edgesCheck
+edges-accept net es b =
+    below-good noEdge _ (length es) (λ k h. true-between 1 (edges net) (getD es k 0) (b k h .from) (b k h .to))
 
 -- 12: every set number is up to the limit
 pub set-numbers-accepted : (sets : List ℕ) → setsCheck sets ≡ Accepted → (k : ℕ) → k < length sets → getD sets k 0 ≤ maxSet
 unfolding setsCheck
 set-numbers-accepted sets e k h = leb-true _ _ (good-below badSet _ (length sets) e k h)
 
+pub set-numbers-accept : (sets : List ℕ) → ((k : ℕ) → k < length sets → getD sets k 0 ≤ maxSet) → setsCheck sets ≡ Accepted
+unfolding setsCheck
+set-numbers-accept sets l = below-good badSet _ (length sets) (λ k h. le-leb _ _ (l k h))
+
 -- 14: the offset is not beyond its edge
 pub lone-offset-accepted : (net : Network) (edge offset : ℕ) → loneOffsetCheck net edge offset ≡ Accepted → offset ≤ size net (pred edge)
 unfolding loneOffsetCheck
 lone-offset-accepted net edge offset e = leb-true _ _ (unless-accepted _ beyondEdge 0 e)
 
+pub lone-offset-accept : (net : Network) (edge offset : ℕ) → offset ≤ size net (pred edge) → loneOffsetCheck net edge offset ≡ Accepted
+unfolding loneOffsetCheck
+lone-offset-accept net edge offset l = unless-accepts _ beyondEdge 0 (le-leb _ _ l)
+
 pub offsets-accepted : (net : Network) (es xs : List ℕ) → offsetsCheck net es xs ≡ Accepted → (k : ℕ) → k < length es → getD xs k 0 ≤ size net (pred (getD es k 0))
 unfolding offsetsCheck
 offsets-accepted net es xs e k h = leb-true _ _ (good-below beyondEdge _ (length es) e k h)
+
+pub offsets-accept : (net : Network) (es xs : List ℕ) → ((k : ℕ) → k < length es → getD xs k 0 ≤ size net (pred (getD es k 0))) → offsetsCheck net es xs ≡ Accepted
+unfolding offsetsCheck
+offsets-accept net es xs l = below-good beyondEdge _ (length es) (λ k h. le-leb _ _ (l k h))
 
 -- 15
 pub count-accepted : (n : ℕ) → eventsCheck n ≡ Accepted → n ≤ maxEvents
 unfolding eventsCheck
 count-accepted n e = leb-true _ _ (unless-accepted _ tooManyEvents maxEvents e)
 
+pub count-accept : (n : ℕ) → n ≤ maxEvents → eventsCheck n ≡ Accepted
+unfolding eventsCheck
+count-accept n l = unless-accepts _ tooManyEvents maxEvents (le-leb _ _ l)
+
 -- 16: the comparison sets up to the greatest are as large as set 0
 pub equal-sets-accepted : (sets : List ℕ) → equalSetsCheck sets ≡ Accepted → (s : ℕ) → 1 ≤ s → s ≤ greatestSet sets → setSize sets s ≡ setSize sets 0
 unfolding equalSetsCheck
 equal-sets-accepted sets e s l u = eqb-true _ _ (good-at unequalSets _ 1 (greatestSet sets) e s l (omega arith))
 
+pub equal-sets-accept : (sets : List ℕ) → ((s : ℕ) → 1 ≤ s → s ≤ greatestSet sets → setSize sets s ≡ setSize sets 0) → equalSetsCheck sets ≡ Accepted
+unfolding equalSetsCheck
+equal-sets-accept sets same = all-good unequalSets _ 1 (greatestSet sets) (λ s l u. eq-eqb _ _ (same s l (omega arith)))
+
 -- 17: no event comes before its forerunner
 pub order-accepted : (es xs : List ℕ) → orderCheck es xs ≡ Accepted → (k : ℕ) → suc k < length es → before (event (getD es (suc k) 0) (getD xs (suc k) 0)) (event (getD es k 0) (getD xs k 0)) ≡ false
 unfolding orderCheck
-order-accepted es xs e k h = not-true _ (good-at notInOrder _ 1 (pred (length es)) e (suc k) (omega arith) (omega arith))
+order-accepted es xs e k h = not-true _ (good-behind notInOrder _ (length es) e k h)
+
+pub order-accept : (es xs : List ℕ) → ((k : ℕ) → suc k < length es → before (event (getD es (suc k) 0) (getD xs (suc k) 0)) (event (getD es k 0) (getD xs k 0)) ≡ false) → orderCheck es xs ≡ Accepted
+unfolding orderCheck
+order-accept es xs o = behind-good notInOrder _ (length es) (λ k h. ap not (o k h))
 
 -- so the events are in order
 pub in-order : (es xs : List ℕ) → length es ≡ length xs → ((k : ℕ) → suc k < length es → before (event (getD es (suc k) 0) (getD xs (suc k) 0)) (event (getD es k 0) (getD xs k 0)) ≡ false) → InOrder (events es xs)
@@ -151,6 +192,16 @@ in-order (a ∷ es) [] e h = empty
 in-order (a ∷ []) (x ∷ xs) e h = one
 in-order (a ∷ b ∷ es) (x ∷ []) e h = one
 in-order (a ∷ b ∷ es) (x ∷ y ∷ xs) e h = more (h 0 (omega arith)) (in-order (b ∷ es) (y ∷ xs) (omega arith) (λ k u. h (suc k) (omega arith)))
+
+-- and of events in order none comes before its forerunner
+pub order-in : (es xs : List ℕ) → length es ≡ length xs → InOrder (events es xs) → (k : ℕ) → suc k < length es → before (event (getD es (suc k) 0) (getD xs (suc k) 0)) (event (getD es k 0) (getD xs k 0)) ≡ false
+unfolding events
+order-in [] xs e o k h = absurd (omega arith)
+order-in (a ∷ es) [] e o k h = absurd (omega arith)
+order-in (a ∷ []) (x ∷ xs) e o k h = absurd (omega arith)
+order-in (a ∷ b ∷ es) (x ∷ []) e o k h = absurd (omega arith)
+order-in (a ∷ b ∷ es) (x ∷ y ∷ xs) e (more s o) zero h = s
+order-in (a ∷ b ∷ es) (x ∷ y ∷ xs) e (more s o) (suc k) h = order-in (b ∷ es) (y ∷ xs) (omega arith) o k (omega arith)
 
 -- 18
 pub threshold-count-accepted : (n : ℕ) → thresholdCountCheck n ≡ Accepted → Between 1 maxThresholds n
@@ -162,7 +213,17 @@ threshold-count-accepted n e =
       to = leb-true _ _ (unless-accepted _ badThresholds maxThresholds (both .1));
     }
 
+pub threshold-count-accept : (n : ℕ) → Between 1 maxThresholds n → thresholdCountCheck n ≡ Accepted
+unfolding thresholdCountCheck
+threshold-count-accept n b =
+    both-accept (unless-accepts _ badThresholds 0 (le-leb _ _ (b .from)))
+    (unless-accepts _ badThresholds maxThresholds (le-leb _ _ (b .to)))
+
 -- 19: each threshold is above its forerunner
 pub rising-accepted : (ts : List ℕ) → risingCheck ts ≡ Accepted → (k : ℕ) → suc k < length ts → getD ts k 0 < getD ts (suc k) 0
 unfolding risingCheck
-rising-accepted ts e k h = ltb-true _ _ (good-at notRising _ 1 (pred (length ts)) e (suc k) (omega arith) (omega arith))
+rising-accepted ts e k h = ltb-true _ _ (good-behind notRising _ (length ts) e k h)
+
+pub rising-accept : (ts : List ℕ) → ((k : ℕ) → suc k < length ts → getD ts k 0 < getD ts (suc k) 0) → risingCheck ts ≡ Accepted
+unfolding risingCheck
+rising-accept ts l = behind-good notRising _ (length ts) (λ k h. lt-ltb _ _ (l k h))

@@ -1,4 +1,5 @@
--- What acceptance by the checks put together means: every crate above rests on it.
+-- What acceptance by the checks put together means: every crate above rests on it. `..-accepted` says that what is
+-- accepted is within the limits, `..-accepts` that all within the limits is accepted.
 use mathlib.Core.List.{List}
 use mathlib.Core.Logic.{⊎-elim}
 use mathlib.Core.Path.{_≡_, refl}
@@ -66,15 +67,21 @@ network-accepted net e =
     values-accepted Accepted net (both .0) (both .1) .is-network
 
 -- and back: nothing else is refused
-pub network-accepts : (net : Network) → IsNetwork net → networkCheck net ≡ Accepted
-unfolding networkCheck networkValues
-network-accepts net n =
-    both-accept (part.lists-accept net (n .firsts-length) (n .seconds-length))
-    (both-accept (part.sizes-accept _ _ (record { from = n .nodes-from; to = n .nodes-to }) (record { from = n .edges-from; to = n .edges-to }))
-    (both-accept refl
+lists-accept : (net : Network) → IsNetwork net → networkLists net ≡ Accepted
+lists-accept net n = part.lists-accept net (n .firsts-length) (n .seconds-length)
+
+values-accept : (lone : Check) (net : Network) → IsNetwork net → lone ≡ Accepted → networkValues lone net ≡ Accepted
+unfolding networkValues
+values-accept lone net n accepted =
+    both-accept (part.sizes-accept _ _ (record { from = n .nodes-from; to = n .nodes-to }) (record { from = n .edges-from; to = n .edges-to }))
+    (both-accept accepted
     (both-accept (part.ends-accept net (n .ends))
     (both-accept (part.different-accept net (n .different))
-    (part.lengths-accept net (λ i h. record { from = n .length-from i h; to = n .length-to i h }))))))
+    (part.lengths-accept net (λ i h. record { from = n .length-from i h; to = n .length-to i h })))))
+
+pub network-accepts : (net : Network) → IsNetwork net → networkCheck net ≡ Accepted
+unfolding networkCheck
+network-accepts net n = both-accept (lists-accept net n) (values-accept Accepted net n refl)
 
 -- a network and two lone nodes
 pub record NodesAccepted (net : Network) (u v : ℕ) : Type 0 where
@@ -94,6 +101,13 @@ nodes-accepted net u v e =
       second-node = part.lone-node-accepted net v (lone .1);
     }
 
+pub nodes-accepts : (net : Network) (u v : ℕ) → NodesAccepted net u v → nodesOverNetworkCheck net u v ≡ Accepted
+unfolding nodesOverNetworkCheck
+nodes-accepts net u v a =
+    both-accept (lists-accept net (a .is-network))
+    (values-accept _ net (a .is-network)
+    (both-accept (part.lone-node-accept net u (a .first-node)) (part.lone-node-accept net v (a .second-node))))
+
 -- a network and two lone locations, each an edge number and an offset
 pub record LocationsAccepted (net : Network) (e x f y : ℕ) : Type 0 where
   pub is-network : IsNetwork net
@@ -103,6 +117,10 @@ pub record LocationsAccepted (net : Network) (e x f y : ℕ) : Type 0 where
 -- an edge number and an offset that 13 and 14 leave
 on-edge : (net : Network) (e x : ℕ) → Between 1 (edges net) e → x ≤ size net (pred e) → IsEvent net (event e x)
 on-edge net e x named within = record { from-one = named .from; to-edges = named .to; on-edge = within }
+
+-- the edge number of an event is one that 13 leaves
+named-edge : (net : Network) (e x : ℕ) → IsEvent net (event e x) → Between 1 (edges net) e
+named-edge net e x is = record { from = is .from-one; to = is .to-edges }
 
 pub locations-accepted : (net : Network) (e x f y : ℕ) → locationsOverNetworkCheck net e x f y ≡ Accepted → LocationsAccepted net e x f y
 unfolding locationsOverNetworkCheck
@@ -116,6 +134,15 @@ locations-accepted net e x f y h =
       first-location = on-edge net e x (part.lone-edge-accepted net e (named-e .0)) (part.lone-offset-accepted net e x (offsets .0));
       second-location = on-edge net f y (part.lone-edge-accepted net f (named-f .0)) (part.lone-offset-accepted net f y (offsets .1));
     }
+
+pub locations-accepts : (net : Network) (e x f y : ℕ) → LocationsAccepted net e x f y → locationsOverNetworkCheck net e x f y ≡ Accepted
+unfolding locationsOverNetworkCheck
+locations-accepts net e x f y a =
+    both-accept (network-accepts net (a .is-network))
+    (both-accept (part.lone-edge-accept net e (named-edge net e x (a .first-location)))
+    (both-accept (part.lone-edge-accept net f (named-edge net f y (a .second-location)))
+    (both-accept (part.lone-offset-accept net e x (a .first-location .on-edge))
+    (part.lone-offset-accept net f y (a .second-location .on-edge)))))
 
 -- the events of an edge list and an offset list: what 2 and 13 to 15 leave
 pub record AreEvents (net : Network) (es xs : List ℕ) : Type 0 where
@@ -134,6 +161,12 @@ are-events net es xs same e =
       few = part.count-accepted (length es) (rest .1);
     }
 
+pub events-accept : (net : Network) (es xs : List ℕ) → AreEvents net es xs → eventValues net es xs ≡ Accepted
+unfolding eventValues
+events-accept net es xs a =
+    both-accept (part.edges-accept net es (λ k h. named-edge net _ _ (a .event-at k h)))
+    (both-accept (part.offsets-accept net es xs (λ k h. a .event-at k h .on-edge)) (part.count-accept (length es) (a .few)))
+
 -- one set in any order
 pub record SetAccepted (net : Network) (es xs : List ℕ) : Type 0 where
   pub is-network : IsNetwork net
@@ -149,6 +182,13 @@ set-accepted net es xs e =
       is-network = values-accepted Accepted net (lists .0) (values .0) .is-network;
       are-events = are-events net es xs (part.same-length-accepted es xs (same .0)) (values .1);
     }
+
+pub set-accepts : (net : Network) (es xs : List ℕ) → SetAccepted net es xs → setCheck net es xs ≡ Accepted
+unfolding setCheck eventLists
+set-accepts net es xs a =
+    both-accept (lists-accept net (a .is-network))
+    (both-accept (part.same-length-accepts es xs (a .are-events .same-length))
+    (both-accept (values-accept Accepted net (a .is-network) refl) (events-accept net es xs (a .are-events))))
 
 -- one set given as laid out, and the number of one edge
 pub record LaidOutAccepted (net : Network) (es xs : List ℕ) (edge : ℕ) : Type 0 where
@@ -172,6 +212,16 @@ laid-out-accepted net es xs edge e =
       is-edge = part.lone-edge-accepted net edge (named .0);
       in-order = part.in-order es xs long (part.order-accepted es xs (rest .1));
     }
+
+pub laid-out-accepts : (net : Network) (es xs : List ℕ) (edge : ℕ) → LaidOutAccepted net es xs edge → laidOutCheck net es xs edge ≡ Accepted
+unfolding laidOutCheck eventLists
+laid-out-accepts net es xs edge a =
+    both-accept (lists-accept net (a .is-network))
+    (both-accept (part.same-length-accepts es xs (a .are-events .same-length))
+    (both-accept (values-accept Accepted net (a .is-network) refl)
+    (both-accept (part.lone-edge-accept net edge (a .is-edge))
+    (both-accept (events-accept net es xs (a .are-events))
+    (part.order-accept es xs (part.order-in es xs (a .are-events .same-length) (a .in-order)))))))
 
 -- all sets
 pub record SetsAccepted (net : Network) (sets es xs : List ℕ) : Type 0 where
@@ -198,6 +248,15 @@ sets-accepted net sets es xs e =
       equal = part.equal-sets-accepted sets (rest .1);
     }
 
+pub sets-accepts : (net : Network) (sets es xs : List ℕ) → SetsAccepted net sets es xs → setsOverNetworkCheck net sets es xs ≡ Accepted
+unfolding setsOverNetworkCheck
+sets-accepts net sets es xs a =
+    both-accept (lists-accept net (a .is-network))
+    (both-accept (part.set-lists-accept sets es xs (a .sets-length) (a .are-events .same-length))
+    (both-accept (values-accept Accepted net (a .is-network) refl)
+    (both-accept (part.set-numbers-accept sets (a .numbers))
+    (both-accept (events-accept net es xs (a .are-events)) (part.equal-sets-accept sets (a .equal))))))
+
 -- a threshold list: each above its forerunner
 pub record ThresholdsAccepted (ts : List ℕ) : Type 0 where
   pub some : 1 ≤ length ts
@@ -210,6 +269,11 @@ thresholds-accepted ts e =
     let both = both-accepted _ _ e in
     let count = part.threshold-count-accepted (length ts) (both .0) in
     record { some = count .from; few = count .to; rising = part.rising-accepted ts (both .1) }
+
+pub thresholds-accepts : (ts : List ℕ) → ThresholdsAccepted ts → thresholdsCheck ts ≡ Accepted
+unfolding thresholdsCheck
+thresholds-accepts ts a =
+    both-accept (part.threshold-count-accept (length ts) (record { from = a .some; to = a .few })) (part.rising-accept ts (a .rising))
 
 -- so each is above all before it
 pub thresholds-rise : (ts : List ℕ) → ThresholdsAccepted ts → (i j : ℕ) → i < j → j < length ts → getD ts i 0 < getD ts j 0
@@ -230,3 +294,7 @@ unfolding layoutCheck eventLists
 layout-accepted es xs e =
     let both = both-accepted _ _ e in
     record { same-length = part.same-length-accepted es xs (both .0); few = part.count-accepted (length es) (both .1) }
+
+pub layout-accepts : (es xs : List ℕ) → LayoutAccepted es xs → layoutCheck es xs ≡ Accepted
+unfolding layoutCheck eventLists
+layout-accepts es xs a = both-accept (part.same-length-accepts es xs (a .same-length)) (part.count-accept (length es) (a .few))

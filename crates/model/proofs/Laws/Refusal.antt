@@ -2,7 +2,7 @@
 use mathlib.Core.Bool.{Bool, true, false, _&&_}
 use mathlib.Core.Logic.{⊎-elim}
 use mathlib.Core.Path.{_≡_, refl, _∙_, sym}
-use Prim.Native.Nat.{ℕ, zero, suc, _+_, _≤_, _<_}
+use Prim.Native.Nat.{ℕ, zero, suc, pred, _+_, _≤_, _<_}
 use native.Mathlib.Nat.{eq-or-lt-of-le}
 use native.Mathlib.Omega.{arith}
 use borrow.Author.Count.{below-more}
@@ -139,6 +139,17 @@ module _ (number : ℕ) (good : ℕ → Bool) where
   pub below-good : (n : ℕ) → ((i : ℕ) → i < n → good i ≡ true) → firstBad number good n ≡ Accepted
   unfolding firstBad
   below-good n h = all-good 0 n (λ i l u. h i (omega arith))
+
+  -- and of the indices below n that have a forerunner
+  pub good-behind : (n : ℕ) → firstBadFrom number good 1 (pred n) ≡ Accepted → (k : ℕ) → suc k < n → good (suc k) ≡ true
+  good-behind n e k h = good-at 1 (pred n) e (suc k) (omega arith) (omega arith)
+
+  pub behind-good : (n : ℕ) → ((k : ℕ) → suc k < n → good (suc k) ≡ true) → firstBadFrom number good 1 (pred n) ≡ Accepted
+  behind-good n h = all-good 1 (pred n) at
+    where
+      at : (i : ℕ) → 1 ≤ i → i < 1 + pred n → good i ≡ true
+      at zero l u = absurd (omega arith)
+      at (suc k) l u = h k (omega arith)
 
   -- The state of a loop that has come to place k: the test held at every place before.
   pub record Scanned (start n k : ℕ) : Type 0 where
