@@ -23,10 +23,14 @@ fn count_edges(edges: &[u32], most: usize, flags: &mut [u8]) -> usize {
 }
 
 // Whether so many events lie on so few edges that count augmentation should be faster than a range query. That takes a step for
-// each two events of a set; count augmentation about one for each event, edge and two thresholds. Sets are of one size.
+// each two events of a set; count augmentation about one for each event, edge and threshold. Sets are of one size.
 pub(crate) fn is_crowded(sets: &[u32], edges: &[u32], thresholds: &[u32]) -> bool {
+    let marks = thresholds.len();
+    if marks == 0 {
+        return false;
+    }
     let set_size = edges.len() / (validate::greatest_set(sets) as usize + 1);
-    let steps = set_size / (thresholds.len() / 2 + 1);
+    let steps = set_size / marks;
     if steps <= OWN_EDGE {
         return false;
     }

@@ -1,20 +1,19 @@
 -- The cursors take the set asked about: nothing of it is refused.
-use mathlib.Core.Bool.{Bool, true, false, not, cond}
+use mathlib.Core.Bool.{Bool, not}
 use mathlib.Core.List.{List, [], _∷_, map}
 use mathlib.Core.Path.{_≡_, refl, sym, ap, ap₂, _∙_}
 use Prim.Native.Nat.{ℕ, zero, suc, pred, _+_, _-_, _*_, _≤_, _<_}
-use native.Mathlib.Numerals.{sub-one}
 use native.Mathlib.Omega.{arith}
 use borrow.Author.Tests.{le-leb}
 use lib.Dec.{eqb, leb}
 use lib.ListN.{length, getD, take, drop, length-map, length-take, List·getD-map}
 use lib.Seq.{getD-take, getD-drop}
-use Rattle.model.proofs.Laws.Checks.{SetsAccepted, AreEvents, network-accepts}
+use Rattle.model.proofs.Laws.Checks.{SetsAccepted, AreEvents, network-accepts, events-accept}
 use Rattle.model.proofs.Laws.CheckParts.{same-length-accepts}
 use Rattle.model.proofs.Laws.Counting.{count-map, count-rearranged}
-use Rattle.model.proofs.Laws.Refusal.{both-accept, both-accepted, unless-accepts, true-between, all-good, below-good}
+use Rattle.model.proofs.Laws.Refusal.{both-accept, both-accepted, unless-accepts, all-good}
 use Rattle.model.proofs.Laws.Sorted.{sorted-rearranged, sorted-in-order}
-use Rattle.model.specs.Checks.{networkCheck, networkLists, networkValues, eventLists, eventValues, edgesCheck, offsetsCheck, eventsCheck, orderCheck, roomCheck, loneEdgeCheck}
+use Rattle.model.specs.Checks.{networkCheck, networkLists, networkValues, eventLists, orderCheck, roomCheck, loneEdgeCheck}
 use Rattle.model.specs.Counting.{countIf, one-if}
 use Rattle.model.specs.Events.{Event, event, events, having, before, sorted, InOrder, IsEvent, setSize, greatestSet}
 use Rattle.model.specs.Limits.{maxEvents}
@@ -27,16 +26,9 @@ use Rattle.prepare.proofs.Laws.Groups.{having-events, having-length}
 use Rattle.prepare.proofs.Laws.InRuns.{in-order-at}
 use Rattle.prepare.proofs.Laws.LaidEvents.{laid-is-event}
 use Rattle.prepare.specs.Prepared.{Prepared, laidOutSet}
-use Rattle.pair_counts.proofs.Laws.AskedSet.{set-bounds, edges-part, offsets-part, set-events, set-in-order, set-same-length}
+use Rattle.pair_counts.proofs.Laws.AskedSet.{set-bounds, edges-part, offsets-part, set-same-length}
 use Rattle.pair_counts.specs.Asked.{boundOf}
 use Rattle.pair_counts.specs.Claim.{onEdge, setEdges, setOffsets}
-
--- events of a network within the limits meet none of 13 to 15, and in order not 17
-pub events-accept : (net : Network) (es xs : List ℕ) → AreEvents net es xs → eventValues net es xs ≡ Accepted
-unfolding eventValues edgesCheck offsetsCheck eventsCheck
-events-accept net es xs ok =
-    both-accept (below-good _ _ (length es) (λ k h. true-between 1 _ _ (ok .event-at k h .from-one) (ok .event-at k h .to-edges)))
-    (both-accept (below-good _ _ (length es) (λ k h. le-leb _ _ (ok .event-at k h .on-edge))) (unless-accepts _ _ _ (le-leb _ _ (ok .few))))
 
 -- an event by its edge and its offset
 event-of : (l : List Event) (k : ℕ) → event (getD (map (λ e. e .edge) l) k 0) (getD (map (λ e. e .offset) l) k 0) ≡ eventAt l k

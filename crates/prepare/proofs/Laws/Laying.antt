@@ -1,7 +1,7 @@
 -- Laying out the sets one after the other: how the loop goes.
 use mathlib.Core.List.{List, _++_, map, map-append}
 use mathlib.Core.Logic.{⊎-elim}
-use mathlib.Core.Path.{_≡_, refl, sym, ap, ap₂, _∙_}
+use mathlib.Core.Path.{_≡_, sym, ap, ap₂, _∙_}
 use Prim.Native.Nat.{ℕ, suc, _+_, _-_, _≤_, _<_}
 use native.Mathlib.Nat.{eq-or-lt-of-le}
 use native.Mathlib.Numerals.{add-one}
@@ -9,28 +9,20 @@ use native.Mathlib.Omega.{arith}
 use lib.ListN.{length, getD, take, drop, set, length-map}
 use borrow.Rule.Slice.PartMut.{putMid}
 use lib.Seq.{take-append-add, take-append-le, take-at, length-take-le, getD-set-same, getD-set-other}
-use borrow.Author.Tests.{eq-eqb, le-leb}
 use Rattle.layout.specs.Layout.{LaidOut}
 use Rattle.model.proofs.Laws.Answer.{written-whole}
+use Rattle.model.proofs.Laws.Checks.{layout-accepts}
 use Rattle.model.proofs.Laws.Pieces.{part-length}
-use Rattle.model.proofs.Laws.Refusal.{both-accept, unless-accepts}
 use Rattle.model.proofs.Laws.Sorted.{sorted-length}
 use Rattle.model.specs.Answer.{written}
-use Rattle.model.specs.Checks.{layoutCheck, eventLists, eventsCheck, sameLength}
+use Rattle.model.specs.Checks.{layoutCheck}
 use Rattle.model.specs.Events.{Event, events, having, sorted, setSize}
 use Rattle.model.specs.Limits.{maxEvents}
-use Rattle.model.specs.Refusal.{listsDiffer, tooManyEvents}
 use Rattle.model.specs.declared.check.Check.{Check}
 use Rattle.model.specs.declared.check.Check.the-variants.{Accepted}
 use Rattle.prepare.specs.Laying.{SetFits, SetLaid, SetsFit, SetsLaid}
 use Rattle.prepare.specs.Prepared.{laidOutSet, groupedFrom, startOf}
 use Rattle.prepare.proofs.Laws.Groups.{events-length, having-events, start-first, start-next, starts-rise, grouped-last}
-
--- lists of one length that are short enough are laid out
-layout-accepts : (es xs : List ℕ) → length es ≡ length xs → length es ≤ maxEvents → layoutCheck es xs ≡ Accepted
-unfolding layoutCheck eventLists sameLength eventsCheck
-layout-accepts es xs e h =
-    both-accept (unless-accepts _ listsDiffer 0 (eq-eqb _ _ e)) (unless-accepts _ tooManyEvents maxEvents (le-leb _ _ h))
 
 -- one of the two lists of a set: gathered, laid out and put back
 module _ (sets es xs : List ℕ) (s : ℕ) (same : length es ≡ length xs) (n : ℕ) (edges offsets : List ℕ)
@@ -38,7 +30,8 @@ module _ (sets es xs : List ℕ) (s : ℕ) (same : length es ≡ length xs) (n :
     (edges-room : n ≤ length edges) (offsets-room : n ≤ length offsets) (few : n ≤ maxEvents)
     (r : Check) (edges′ offsets′ : List ℕ) (laid : LaidOut (take n edges) (take n offsets) r edges′ offsets′) where
   accepted : layoutCheck (take n edges) (take n offsets) ≡ Accepted
-  accepted = layout-accepts _ _ (length-take-le n edges edges-room ∙ sym (length-take-le n offsets offsets-room)) (rw (length-take-le n edges edges-room) few)
+  accepted =
+      layout-accepts _ _ (record { same-length = length-take-le n edges edges-room ∙ sym (length-take-le n offsets offsets-room); few = rw (length-take-le n edges edges-room) few })
 
   laid-events : sorted (events (take n edges) (take n offsets)) ≡ laidOutSet sets (events es xs) s
   unfolding laidOutSet
