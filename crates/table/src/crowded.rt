@@ -1,11 +1,19 @@
 // Which method counts. All are proved to give the same counts, so that the choice is free and nothing is promised of it.
 use model::Network;
 
+pub enum Method {
+    RangeQuery,
+    CountAugmentation,
+    NeighbourSharing,
+}
+
 // A flag for each edge number, which begin with 1.
 const FLAGS: usize = Network::MAX_EDGES + 1;
 
 // Pairs on one edge take as long as pairs with so many other edges (measured: docs/BENCHMARKS.md).
 const OWN_EDGE: usize = 14;
+
+const VERY_FEW: usize = 3;
 
 // How many different edges have an event, so many at most. Numbers without a flag are passed over.
 fn count_edges(edges: &[u32], most: usize, flags: &mut [u8]) -> usize {
@@ -22,19 +30,26 @@ fn count_edges(edges: &[u32], most: usize, flags: &mut [u8]) -> usize {
     count
 }
 
-// Whether so many events lie on so few edges that count augmentation should be faster than a range query. That takes a step for
-// each two events of a set; count augmentation about one for each event, edge and threshold. Sets are of one size.
-pub(crate) fn is_crowded(sets: &[u32], edges: &[u32], thresholds: &[u32]) -> bool {
+// The method that should be fastest: the range query takes a step for each two events of a set; count augmentation five sixths of
+// one for each event, edge and threshold; and on very few edges neighbour sharing is faster than that. Sets are of one size.
+pub(crate) fn method_for(sets: &[u32], edges: &[u32], thresholds: &[u32]) -> Method {
     let marks = thresholds.len();
     if marks == 0 {
-        return false;
+        return Method::RangeQuery;
     }
     let set_size = edges.len() / (validate::greatest_set(sets) as usize + 1);
-    let steps = set_size / marks;
+    let steps = set_size / (marks - marks / 6);
     if steps <= OWN_EDGE {
-        return false;
+        return Method::RangeQuery;
     }
     let most = steps - OWN_EDGE;
     let mut flags = [0u8; FLAGS];
-    count_edges(edges, most, &mut flags) < most
+    let occupied = count_edges(edges, most, &mut flags);
+    if occupied <= VERY_FEW {
+        return Method::NeighbourSharing;
+    }
+    if occupied < most {
+        return Method::CountAugmentation;
+    }
+    Method::RangeQuery
 }

@@ -5,7 +5,8 @@ ghost use Rattle.table.specs.Table.{TableAnswered};
 use crate::answers::Table;
 use crate::checks::check_table;
 use crate::columns::fill_columns;
-use crate::crowded::is_crowded;
+use crate::crowded::Method;
+use crate::crowded::method_for;
 use model::Check;
 use model::EventSet;
 use model::Thresholds;
@@ -13,7 +14,7 @@ use model::Thresholds;
 // A count of every set at every threshold.
 const COUNTS: usize = (EventSet::MAX_SET as usize + 1) * Thresholds::MAX_THRESHOLDS;
 
-// The counts of every set at every threshold, by the method that should be faster.
+// The counts of every set at every threshold, by the method that should be fastest.
 fn pair_counts(
     nodes: u32,
     firsts: &[u32],
@@ -27,8 +28,8 @@ fn pair_counts(
 ) -> Check
     ensures { λ r. ⌜ CountsAnswered (network nodes (now (firsts .entry)) (now (seconds .entry)) (now (lengths .entry))) (now (sets .entry)) (now (edges .entry)) (now (offsets .entry)) (now (thresholds .entry)) (now (answers .entry)) r (now (answers .exit)) ⌝ }
 {
-    if is_crowded(sets, edges, thresholds) {
-        return count_augmentation::counts(
+    match method_for(sets, edges, thresholds) {
+        Method::RangeQuery => range_query::counts(
             nodes,
             firsts,
             seconds,
@@ -38,19 +39,30 @@ fn pair_counts(
             offsets,
             thresholds,
             answers,
-        );
+        ),
+        Method::CountAugmentation => count_augmentation::counts(
+            nodes,
+            firsts,
+            seconds,
+            lengths,
+            sets,
+            edges,
+            offsets,
+            thresholds,
+            answers,
+        ),
+        Method::NeighbourSharing => neighbor_sharing::counts(
+            nodes,
+            firsts,
+            seconds,
+            lengths,
+            sets,
+            edges,
+            offsets,
+            thresholds,
+            answers,
+        ),
     }
-    range_query::counts(
-        nodes,
-        firsts,
-        seconds,
-        lengths,
-        sets,
-        edges,
-        offsets,
-        thresholds,
-        answers,
-    )
 }
 
 // The same with room for the counts lent. What the checks accept, the counts are given for.
