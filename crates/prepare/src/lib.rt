@@ -14,14 +14,23 @@ use model::Check;
 use model::EventSet;
 use model::Network;
 
+// An entry for each event.
+pub type Laid = [u32; EventSet::MAX_EVENTS];
+
 // Runs are at most as many as events; behind the last stands its end.
 pub const BOUNDS: usize = EventSet::MAX_EVENTS + 1;
+
+pub type Bounds = [u32; BOUNDS];
 
 // An entry for each set, and one behind the last.
 pub const SET_RUNS: usize = EventSet::MAX_SET as usize + 2;
 
+pub type SetRuns = [u32; SET_RUNS];
+
 // An entry for each two nodes.
 pub const TABLE: usize = Network::MAX_NODES as usize * Network::MAX_NODES as usize;
+
+pub type Table = [u32; TABLE];
 
 // Checks everything that a counting method is lent. On acceptance the laid-out lists hold the sets one after the other, each laid
 // out; bounds the places at which runs of events on one edge begin; set_runs the number of the run with which each set begins;
@@ -37,11 +46,11 @@ pub fn prepare(
     offsets: &[u32],
     thresholds: &[u32],
     room: usize,
-    laid_edges: &mut [u32; EventSet::MAX_EVENTS],
-    laid_offsets: &mut [u32; EventSet::MAX_EVENTS],
-    bounds: &mut [u32; BOUNDS],
-    set_runs: &mut [u32; SET_RUNS],
-    table: &mut [u32; TABLE],
+    laid_edges: &mut Laid,
+    laid_offsets: &mut Laid,
+    bounds: &mut Bounds,
+    set_runs: &mut SetRuns,
+    table: &mut Table,
 ) -> Check
     ensures { λ r. ⌜ Ready (network nodes (now (firsts .entry)) (now (seconds .entry)) (now (lengths .entry))) (now (sets .entry)) (now (edges .entry)) (now (offsets .entry)) (now (thresholds .entry)) room r (now («laid_edges» .exit)) (now («laid_offsets» .exit)) (now (bounds .exit)) (now («set_runs» .exit)) (now (table .exit)) ⌝ }
 {

@@ -18,11 +18,11 @@ fn count_sets(
     edges: &[u32],
     offsets: &[u32],
     thresholds: &[u32],
-    laid_edges: &mut [u32; EventSet::MAX_EVENTS],
-    laid_offsets: &mut [u32; EventSet::MAX_EVENTS],
-    bounds: &mut [u32; prepare::BOUNDS],
-    set_runs: &mut [u32; prepare::SET_RUNS],
-    table: &mut [u32; prepare::TABLE],
+    laid_edges: &mut prepare::Laid,
+    laid_offsets: &mut prepare::Laid,
+    bounds: &mut prepare::Bounds,
+    set_runs: &mut prepare::SetRuns,
+    table: &mut prepare::Table,
     answers: &mut [u32],
 ) -> Check
     ensures { λ r. ⌜ CountsAnswered (network nodes (now (firsts .entry)) (now (seconds .entry)) (now (lengths .entry))) (now (sets .entry)) (now (edges .entry)) (now (offsets .entry)) (now (thresholds .entry)) (now (answers .entry)) r (now (answers .exit)) ⌝ }
