@@ -1,6 +1,6 @@
 //! Reads the three texts in the current folder and prints the table or the
-//! refusal. A word (query, augmentation or sharing) sets the method. It ends with 0 either way: the paper names no other signal than
-//! the printed line.
+//! refusal. A word (query, augmentation or sharing) sets the method. It ends
+//! with 0 either way: the paper names no other signal than the printed line.
 
 use std::fs::File;
 use std::io::{Read, Write};

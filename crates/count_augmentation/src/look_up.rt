@@ -6,6 +6,9 @@ ghost use lib.Dec.{ltb};
 ghost use lib.ListN.{length, getD};
 ghost use Rattle.count_augmentation.specs.Storing.{Rising, Bracket, Parted, storedBefore, placeOf};
 
+// So many places are halved away by four halvings.
+const LAST_FEW: usize = 15;
+
 // So many places are passed if the offset at the last of them is below a limit.
 fn passed(offset: u32, limit: u64, places: usize) -> usize
     ensures { λ r. ⌜ r ≡ cond (ltb offset limit) places 0 ⌝ }
@@ -22,7 +25,7 @@ fn halve(offsets: &[u32], limit: u64, low: usize, left: usize) -> usize
     low + passed(offsets[low + half - 1], limit, half)
 }
 
-// That place, of which at most so many are left to look at as four halvings take. No loop: it compiles with no branch on what is found.
+// That place, with at most LAST_FEW places left to look at: four halvings. No loop, so that it compiles with no branch on what is found.
 fn place_among(offsets: &[u32], limit: u64, low: usize, left: usize) -> usize
     requires { ⌜ Rising (now offsets) × Bracket (now offsets) limit low left × (left ≤ 15) ⌝ }
     ensures { λ r. ⌜ Parted (now (offsets .entry)) limit r ⌝ }
@@ -52,7 +55,7 @@ fn place_of(offsets: &[u32], limit: u64) -> usize
 {
     let mut low = 0;
     let mut left = offsets.len();
-    while 15 < left {
+    while LAST_FEW < left {
         low = halve(offsets, limit, low, left);
         left = left / 2;
     }

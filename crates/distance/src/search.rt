@@ -131,7 +131,8 @@ fn search_with(
     }
 }
 
-// Offers each end of an arc of v the entry of v, which is the least, and the arc's length. Source, bound and picks are for the contract.
+// Offers each end of an arc of v the entry of v, which is the least, and the arc's length. Nodes, source, bound and picks are for the
+// contract.
 fn follow(
     nodes: u32,
     firsts: &[u32],

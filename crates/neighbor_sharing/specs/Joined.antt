@@ -18,7 +18,7 @@ unfoldable pub joined : ℕ → ℕ → ℕ → ℕ → ℕ → ℕ → ℕ → 
 joined n ff fs sf ss low high =
     n - (min low (n - max fs ss) - max ff sf) - ((n - max fs ss) - max high (max ff sf))
 
--- where the six cursors stand, n being the events of the second edge
+-- how many of the n events of the second edge are reached, by where the six cursors stand
 unfoldable pub joinedOf : ℕ → Stands → ℕ
 joinedOf n m = joined n (m .ff) (m .fs) (m .sf) (m .ss) (m .low) (m .high)
 
@@ -26,6 +26,7 @@ joinedOf n m = joined n (m .ff) (m .fs) (m .sf) (m .ss) (m .low) (m .high)
 unfoldable pub joinedFrom : ℕ → Edges → List ℕ → ℕ → ℕ
 joinedFrom t w ys x = joinedOf (length ys) (standsAt t w ys x)
 
+-- the same from every event of the first edge
 unfoldable pub sweptSum : ℕ → Edges → List ℕ → List ℕ → ℕ
 sweptSum t w xs ys = sumBelow (length xs) (λ i. joinedFrom t w ys (getD xs i 0))
 

@@ -2,13 +2,12 @@
 use crate::sweep::Edges;
 use model::Check;
 use model::Network;
-ghost use mathlib.Core.Bool.{_&&_};
 ghost use mathlib.Core.Path.{_≡_};
-ghost use Prim.Native.Nat.{pred, _*_, _≤_};
-ghost use lib.Dec.{eqb, leb};
+ghost use Prim.Native.Nat.{pred, _≤_};
+ghost use lib.Dec.{eqb};
 ghost use lib.ListN.{length, getD};
 ghost use Rattle.model.specs.Counting.{one-if};
-ghost use Rattle.model.specs.Events.{having, setSize};
+ghost use Rattle.model.specs.Events.{setSize};
 ghost use Rattle.model.specs.Network.{network};
 ghost use Rattle.neighbor_sharing.specs.Answers.{cursorsCheck};
 ghost use Rattle.neighbor_sharing.specs.Asked.{hasRooms, EndsAsked, EndsReached, EdgesAsked, EdgesFound, TwoEdges};

@@ -57,7 +57,7 @@ pub(crate) fn rest(cursor: Cursor, ys: &[u32]) -> usize
     0
 }
 
-// From a place that no more are reached than, down to where the outermost event is reached.
+// Down from a number that is not too low to the number of events reached: while the outermost is not.
 fn fall(ys: &[u32], long: u32, first: bool, reach: u64, from: usize) -> usize
     requires { ⌜ Ordered (now ys) × (from ≤ length (now ys)) × (reached long (sideOf first) reach (now ys) ≤ from) ⌝ }
     ensures { λ r. ⌜ r ≡ reached long (sideOf first) reach (now (ys .entry)) ⌝ }
@@ -72,7 +72,7 @@ fn fall(ys: &[u32], long: u32, first: bool, reach: u64, from: usize) -> usize
     k
 }
 
-// From a place that no fewer are reached than, up to where the next event is not reached.
+// Up from a number that is not too high to the number of events reached: while the next one is.
 fn rise(ys: &[u32], long: u32, first: bool, reach: u64, from: usize) -> usize
     requires { ⌜ Ordered (now ys) × (from ≤ reached long (sideOf first) reach (now ys)) ⌝ }
     ensures { λ r. ⌜ r ≡ reached long (sideOf first) reach (now (ys .entry)) ⌝ }

@@ -5,34 +5,27 @@ use mathlib.Core.Path.{_≡_}
 use Prim.Native.Nat.{ℕ, _+_, _-_, _/_, _≤_, _<_, min}
 use lib.ListN.{length, getD}
 use Rattle.model.specs.Limits.{maxThresholds}
-use Rattle.range_query.specs.Tally.{Bracket, Level}
+use Rattle.range_query.specs.Tally.{lastStep, firstCell, cellCount, ladderLength, Bracket, Level}
 
 -- the thresholds, the greatest repeated behind them
 pub record SpreadSteps (ts steps : List ℕ) : Type 0 where
-  pub long : length steps ≡ 8257
+  pub long : length steps ≡ ladderLength
   pub at : (k : ℕ) → k < maxThresholds → getD steps k 0 ≡ getD ts (min k (length ts - 1)) 0
   pub small : (k : ℕ) → k < maxThresholds → getD steps k 0 < 4294967296
 
 -- from step c on to step r, which is not beyond the last, all are below so many metres
 pub record Skipped (steps : List ℕ) (metres c r : ℕ) : Type 0 where
   pub onward : c ≤ r
-  pub in-list : r ≤ 63
+  pub in-list : r ≤ lastStep
   pub passed : (j : ℕ) → c ≤ j → j < r → getD steps j 0 < metres
 
 -- every step behind number c admits what lies before an end and within the greatest threshold
 pub record Alone (steps : List ℕ) (c end : ℕ) : Type 0 where
-  pub ahead : (d : ℕ) → d < end → d ≤ getD steps 63 0 → (j : ℕ) → c < j → j < maxThresholds → d ≤ getD steps j 0
-
--- the first n cells of so many metres name the one step that need be looked at, if the steps do not fall; the steps are kept
-pub record CellsTo (old : List ℕ) (width n : ℕ) (new : List ℕ) : Type 0 where
-  pub long : length new ≡ length old
-  pub kept : (k : ℕ) → k < maxThresholds → getD new k 0 ≡ getD old k 0
-  pub few : n ≤ 8192
-  pub names : Level old → (d : ℕ) → d / width < n → d ≤ getD old 63 0 → Bracket old d (getD new (65 + d / width) 0) 1
+  pub ahead : (d : ℕ) → d < end → d ≤ getD steps lastStep 0 → (j : ℕ) → c < j → j < maxThresholds → d ≤ getD steps j 0
 
 -- if they were filled, there is a cell for every number of metres up to the greatest threshold
 pub record CellsFilled (old : List ℕ) (width : ℕ) (r : Bool) (new : List ℕ) : Type 0 where
   pub long : length new ≡ length old
   pub kept : (k : ℕ) → k < maxThresholds → getD new k 0 ≡ getD old k 0
-  pub in-list : r ≡ true → (d : ℕ) → d ≤ getD old 63 0 → d / width < 8192
-  pub names : r ≡ true → Level old → (d : ℕ) → d ≤ getD old 63 0 → Bracket old d (getD new (65 + d / width) 0) 1
+  pub in-list : r ≡ true → (d : ℕ) → d ≤ getD old lastStep 0 → d / width < cellCount
+  pub names : r ≡ true → Level old → (d : ℕ) → d ≤ getD old lastStep 0 → Bracket old d (getD new (firstCell + d / width) 0) 1

@@ -8,6 +8,26 @@ use lib.ListN.{length, getD}
 use Rattle.model.specs.Counting.{sumBelow}
 use Rattle.model.specs.Limits.{maxThresholds}
 
+-- the places of the list of steps: the step of the greatest threshold, the shift behind the steps, and behind it the cells
+abbrev pub lastStep : ℕ
+lastStep = 63
+
+abbrev pub shiftAt : ℕ
+shiftAt = 64
+
+abbrev pub firstCell : ℕ
+firstCell = 65
+
+abbrev pub cellCount : ℕ
+cellCount = 8192
+
+abbrev pub ladderLength : ℕ
+ladderLength = 8257
+
+-- a shift that is none
+abbrev pub noShift : ℕ
+noShift = 64
+
 -- the sum of f over the numbers from a up to before b
 unfoldable pub sumBetween : ℕ → ℕ → (ℕ → ℕ) → ℕ
 sumBetween a b f = sumBelow (b - a) (λ k. f (a + k))
@@ -25,27 +45,27 @@ pub record Level (steps : List ℕ) : Type 0 where
 -- behind the steps a shift, and behind it a cell for each 2 ^ shift metres up to the greatest threshold: only the step that it names
 -- need be looked at
 pub record Celled (steps : List ℕ) : Type 0 where
-  pub in-list : (d : ℕ) → d ≤ getD steps 63 0 → d / 2 ^ getD steps 64 0 < 8192
-  pub names : (d : ℕ) → d ≤ getD steps 63 0 → Bracket steps d (getD steps (65 + d / 2 ^ getD steps 64 0) 0) 1
+  pub in-list : (d : ℕ) → d ≤ getD steps lastStep 0 → d / 2 ^ getD steps shiftAt 0 < cellCount
+  pub names : (d : ℕ) → d ≤ getD steps lastStep 0 → Bracket steps d (getD steps (firstCell + d / 2 ^ getD steps shiftAt 0) 0) 1
 
--- the steps do not fall, and are thresholds; there are cells if the shift is one
+-- the steps do not fall, and are thresholds; there are cells if the shift is one that is told (noShift is none)
 pub record Steps (steps : List ℕ) : Type 0 where
   pub level : (j k : ℕ) → j ≤ k → k < maxThresholds → getD steps j 0 ≤ getD steps k 0
   pub small : (k : ℕ) → k < maxThresholds → getD steps k 0 < 4294967296
-  pub celled : getD steps 64 0 < 64 → Celled steps
+  pub celled : getD steps shiftAt 0 < noShift → Celled steps
 
 -- steps with cells, their shift and the greatest of them
 pub record CellsAsked (steps : List ℕ) (shift greatest : ℕ) : Type 0 where
   pub rising : Steps steps
-  pub shift-is : shift ≡ getD steps 64 0
-  pub shift-to : shift < 64
-  pub greatest-is : greatest ≡ getD steps 63 0
+  pub shift-is : shift ≡ getD steps shiftAt 0
+  pub shift-to : shift < noShift
+  pub greatest-is : greatest ≡ getD steps lastStep 0
 
 -- the thresholds, the greatest repeated behind them, and cells that are right if the thresholds rise
 pub record Spread (ts steps : List ℕ) : Type 0 where
   pub at : (k : ℕ) → k < maxThresholds → getD steps k 0 ≡ getD ts (min k (length ts - 1)) 0
   pub small : (k : ℕ) → k < maxThresholds → getD steps k 0 < 4294967296
-  pub celled : Level steps → getD steps 64 0 < 64 → Celled steps
+  pub celled : Level steps → getD steps shiftAt 0 < noShift → Celled steps
 
 -- b is the number of steps that do not admit d
 pub record Bucket (steps : List ℕ) (d b : ℕ) : Type 0 where

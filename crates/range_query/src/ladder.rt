@@ -4,7 +4,7 @@ ghost use mathlib.Core.Path.{_≡_};
 ghost use Prim.Native.Nat.{_^_, _≤_, _<_};
 ghost use lib.ListN.{length, getD};
 ghost use Rattle.range_query.specs.Ladder.{Skipped, Alone, SpreadSteps, CellsFilled};
-ghost use Rattle.range_query.specs.Tally.{Level, Spread};
+ghost use Rattle.range_query.specs.Tally.{lastStep, ladderLength, noShift, Level, Spread};
 use crate::blocks::earlier;
 use crate::metres::apart;
 use crate::metres::lesser;
@@ -19,7 +19,7 @@ use crate::tally::STEPS;
 
 // Spreads the thresholds over all steps: behind the greatest it is repeated.
 fn spread_steps(thresholds: &[u32], steps: &mut [u32; LADDER])
-    requires { ⌜ (1 ≤ length (now thresholds)) × (length (now steps) ≡ 8257) ⌝ }
+    requires { ⌜ (1 ≤ length (now thresholds)) × (length (now steps) ≡ ladderLength) ⌝ }
     ensures { λ _. ⌜ SpreadSteps (now (thresholds .entry)) (now (steps .exit)) ⌝ }
 {
     let last = thresholds.len() - 1;
@@ -41,7 +41,7 @@ fn least_gap(thresholds: &[u32]) -> u64 {
     gap
 }
 
-// The greatest shift whose power of two is not above a gap.
+// The greatest shift up to 31 whose power of two is not above a gap of at least 1.
 fn shift_within(gap: u64) -> u32
     ensures { λ r. ⌜ r < 32 ⌝ }
 {
@@ -57,6 +57,7 @@ fn shift_within(gap: u64) -> u32
     shift
 }
 
+// The metres of a cell.
 fn width_of(shift: u32) -> u64
     requires { ⌜ shift < 32 ⌝ }
     ensures { λ r. ⌜ (r ≡ 2 ^ shift) × (1 ≤ r) × (r ≤ 2147483648) ⌝ }
@@ -66,7 +67,7 @@ fn width_of(shift: u32) -> u64
 
 // The first step from number c on that is not below so many metres, the last one at most.
 fn skip(steps: &[u32; LADDER], metres: u64, c: usize) -> usize
-    requires { ⌜ c ≤ 63 ⌝ }
+    requires { ⌜ c ≤ lastStep ⌝ }
     ensures { λ r. ⌜ Skipped (now (steps .entry)) metres c r ⌝ }
 {
     let mut k = c;
@@ -79,9 +80,9 @@ fn skip(steps: &[u32; LADDER], metres: u64, c: usize) -> usize
     k
 }
 
-// Whether every step behind number c admits whatever lies before an end and within the greatest threshold.
+// True only if every step behind number c admits whatever lies before an end and within the greatest threshold.
 fn is_alone(steps: &[u32; LADDER], c: usize, end: u64) -> bool
-    requires { ⌜ c ≤ 63 ⌝ }
+    requires { ⌜ c ≤ lastStep ⌝ }
     ensures { λ r. ⌜ (r ≡ true → Level (now (steps .entry)) → Alone (now (steps .entry)) c end) ⌝ }
 {
     if c == LAST_STEP {
@@ -96,7 +97,7 @@ fn is_alone(steps: &[u32; LADDER], c: usize, end: u64) -> bool
 
 // Writes the cells, each of so many metres. False where a cell has two steps, or where there are too many cells.
 fn fill_cells(steps: &mut [u32; LADDER], width: u64) -> bool
-    requires { ⌜ (length (now steps) ≡ 8257) × (getD (now steps) 63 0 < 4294967296) × (1 ≤ width) × (width ≤ 2147483648) ⌝ }
+    requires { ⌜ (length (now steps) ≡ ladderLength) × (getD (now steps) lastStep 0 < 4294967296) × (1 ≤ width) × (width ≤ 2147483648) ⌝ }
     ensures { λ r. ⌜ CellsFilled (now (steps .entry)) width r (now (steps .exit)) ⌝ }
 {
     let greatest = wide(steps[LAST_STEP]);
@@ -119,16 +120,17 @@ fn fill_cells(steps: &mut [u32; LADDER], width: u64) -> bool
     true
 }
 
+// The shift if the cells were filled.
 fn shift_or_none(filled: bool, shift: u32) -> u32
     requires { ⌜ shift < 32 ⌝ }
-    ensures { λ r. ⌜ (r < 64 → (filled ≡ true) × (r ≡ shift)) ⌝ }
+    ensures { λ r. ⌜ (r < noShift → (filled ≡ true) × (r ≡ shift)) ⌝ }
 {
     if filled { shift } else { NO_CELLS }
 }
 
 // The steps, the shift and the cells.
 pub(crate) fn spread(thresholds: &[u32], steps: &mut [u32; LADDER])
-    requires { ⌜ (1 ≤ length (now thresholds)) × (length (now steps) ≡ 8257) ⌝ }
+    requires { ⌜ (1 ≤ length (now thresholds)) × (length (now steps) ≡ ladderLength) ⌝ }
     ensures { λ _. ⌜ Spread (now (thresholds .entry)) (now (steps .exit)) ⌝ }
 {
     spread_steps(thresholds, steps);

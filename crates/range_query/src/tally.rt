@@ -6,7 +6,7 @@ ghost use lib.Dec.{leb, ltb};
 ghost use lib.ListN.{length, getD};
 ghost use Rattle.model.specs.Counting.{countBelow};
 ghost use Rattle.range_query.specs.Metres.{meet};
-ghost use Rattle.range_query.specs.Tally.{Steps, Bracket, Bucket, CellsAsked, Added, RowFits};
+ghost use Rattle.range_query.specs.Tally.{shiftAt, noShift, Steps, Bracket, Bucket, CellsAsked, Added, RowFits};
 use crate::metres::lesser;
 use crate::metres::meet;
 use crate::metres::wide;
@@ -114,7 +114,7 @@ fn row_by_cells(
     shift: u32,
     buckets: &mut [u32; BUCKETS],
 )
-    requires { ⌜ RowFits p q other (now ys) (now steps) (now buckets) × (shift ≡ getD (now steps) 64 0) × (shift < 64) ⌝ }
+    requires { ⌜ RowFits p q other (now ys) (now steps) (now buckets) × (shift ≡ getD (now steps) shiftAt 0) × (shift < noShift) ⌝ }
     ensures { λ _. ⌜ Added (now (steps .entry)) (now (buckets .entry)) (now (buckets .exit)) (length (now (ys .entry))) (λ t. countBelow (length (now (ys .entry))) (λ j. leb (meet p q other place (getD (now (ys .entry)) j 0)) t)) ⌝ }
 {
     let greatest = wide(steps[LAST_STEP]);

@@ -2,7 +2,7 @@
 mod answers;
 mod checks;
 mod columns;
-mod crowded;
+mod method;
 mod sets;
 mod spans;
 

@@ -5,8 +5,8 @@ ghost use Rattle.table.specs.Table.{TableAnswered};
 use crate::answers::Table;
 use crate::checks::check_table;
 use crate::columns::fill_columns;
-use crate::crowded::Method;
-use crate::crowded::method_for;
+use crate::method::Method;
+use crate::method::method_for;
 use model::Check;
 use model::EventSet;
 use model::Thresholds;
@@ -51,7 +51,7 @@ fn pair_counts(
             thresholds,
             answers,
         ),
-        Method::NeighbourSharing => neighbor_sharing::counts(
+        Method::NeighborSharing => neighbor_sharing::counts(
             nodes,
             firsts,
             seconds,

@@ -30,8 +30,9 @@ struct Case {
 }
 
 #[rustfmt::skip]
-const CASES: [Case; 18] = [
+const CASES: [Case; 19] = [
     Case { what: "tiny", nodes: 4, legs: 4, longest: 9, sets: 3, per_set: 4, on_legs: 0, thresholds: 4 },
+    Case { what: "reports 0", nodes: 512, legs: 1_024, longest: 999, sets: 1, per_set: 900, on_legs: 0, thresholds: 64 },
     Case { what: "reports 1", nodes: 512, legs: 1_024, longest: 999, sets: 1, per_set: 1_000, on_legs: 0, thresholds: 64 },
     Case { what: "reports 2", nodes: 512, legs: 1_024, longest: 999, sets: 1, per_set: 2_000, on_legs: 0, thresholds: 64 },
     Case { what: "reports 3", nodes: 512, legs: 1_024, longest: 999, sets: 1, per_set: 4_000, on_legs: 0, thresholds: 64 },

@@ -66,7 +66,7 @@ network-accepted net e =
     let both = both-accepted _ _ e in
     values-accepted Accepted net (both .0) (both .1) .is-network
 
--- and back: nothing else is refused
+-- the parts of a network within the limits
 lists-accept : (net : Network) → IsNetwork net → networkLists net ≡ Accepted
 lists-accept net n = part.lists-accept net (n .firsts-length) (n .seconds-length)
 
@@ -79,6 +79,7 @@ values-accept lone net n accepted =
     (both-accept (part.different-accept net (n .different))
     (part.lengths-accept net (λ i h. record { from = n .length-from i h; to = n .length-to i h })))))
 
+-- and back: nothing else is refused
 pub network-accepts : (net : Network) → IsNetwork net → networkCheck net ≡ Accepted
 unfolding networkCheck
 network-accepts net n = both-accept (lists-accept net n) (values-accept Accepted net n refl)

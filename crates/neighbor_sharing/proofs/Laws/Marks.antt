@@ -8,7 +8,6 @@ use lib.Dec.{eqb, eqb·suc-zero}
 use lib.ListN.{length, getD, take, drop, replicate, length-map, length-replicate}
 use lib.Seq.{drop-drop}
 use Rattle.model.specs.Distance.{Distance, metres, none}
-use Rattle.model.specs.Location.{Side}
 use Rattle.neighbor_sharing.proofs.Laws.Kinds.{map-agree, route-standing}
 use Rattle.neighbor_sharing.specs.Answers.{marked, markedIf}
 use Rattle.neighbor_sharing.specs.Cursors.{position, positions, rest, moves}

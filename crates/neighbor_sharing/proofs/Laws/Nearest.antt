@@ -1,15 +1,15 @@
 -- The events reached from an end of an edge are the nearest ones to it.
-use mathlib.Core.Bool.{Bool, true, false}
+use mathlib.Core.Bool.{Bool, true}
 use mathlib.Core.List.{List}
 use mathlib.Core.Path.{_≡_, _∙_, sym}
-use Prim.Native.Nat.{ℕ, suc, _+_, _-_, _≤_, _<_}
+use Prim.Native.Nat.{ℕ, _-_, _≤_, _<_}
 use native.Mathlib.Decide.{decLt}
 use native.Mathlib.Omega.{arith}
 use borrow.Author.Tests.{lt-ltb, le-ltb, le-leb, lt-leb, ltb-true}
 use lib.Dec.{leb, ltb}
 use lib.ListN.{length, getD}
 use Rattle.model.specs.Counting.{countIf}
-use Rattle.model.specs.Location.{Side, at-first, at-second, gap}
+use Rattle.model.specs.Location.{at-first, at-second, gap}
 use Rattle.model.proofs.Laws.Counting.{count-at-most}
 use Rattle.model.proofs.Laws.Cover.{first-places, last-places}
 use Rattle.neighbor_sharing.specs.Sweeping.{Ordered, reached}

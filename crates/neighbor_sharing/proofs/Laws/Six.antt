@@ -1,9 +1,7 @@
 -- Six parts written one after the other are the six lists, and six numbers written are the six sums.
-use mathlib.Core.Bool.{Bool, true, false}
-use mathlib.Core.List.{List, [], _∷_, _++_, map, append-assoc}
+use mathlib.Core.List.{List, [], _∷_, _++_, append-assoc}
 use mathlib.Core.Path.{_≡_, _∙_, refl, sym, ap, ap₂}
-use Prim.Native.Nat.{ℕ, zero, suc, _+_, _*_, _≤_, _<_}
-use native.Mathlib.Nat.{not-suc-le-zero}
+use Prim.Native.Nat.{ℕ, _+_, _*_, _≤_}
 use native.Mathlib.Omega.{arith}
 use lib.ListN.{length, take, drop, set, length-map, length-append}
 use lib.Seq.{take-at, drop-append-add, drop-drop}
@@ -11,9 +9,9 @@ use Rattle.model.specs.Answer.{written}
 use Rattle.model.specs.Location.{Side, at-first, at-second}
 use Rattle.model.specs.declared.check.Check.the-variants.{Accepted}
 use Rattle.neighbor_sharing.proofs.Laws.Kinds.{map-agree, below-standing, up-to-standing}
-use Rattle.neighbor_sharing.specs.Answers.{marked, markedIf}
+use Rattle.neighbor_sharing.specs.Answers.{markedIf}
 use Rattle.neighbor_sharing.specs.Cursors.{positions, below, upTo, rest, moves}
-use Rattle.neighbor_sharing.specs.Six.{routeMarks, routeSum, windowMarks, windowSum, sixMarks, sixSums, distanceBetween, placed, PartSwept, RouteSwept, EdgesSweepable, EdgesSwept}
+use Rattle.neighbor_sharing.specs.Six.{routeMarks, windowMarks, windowSum, sixMarks, sixSums, distanceBetween, placed, PartSwept, RouteSwept, EdgesSweepable, EdgesSwept}
 use Rattle.neighbor_sharing.specs.Sweeping.{sideOf, standing, resting, belowCursor, upToCursor}
 use Rattle.neighbor_sharing.specs.declared.cursor.Cursor.{Cursor}
 use Rattle.neighbor_sharing.specs.declared.sweep.Edges.{Edges}

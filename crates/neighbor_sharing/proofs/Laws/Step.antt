@@ -7,18 +7,16 @@ use native.Mathlib.Nat.{not-suc-le-zero}
 use native.Mathlib.Numerals.{add-one}
 use native.Mathlib.Omega.{arith}
 use borrow.Author.Tests.{ltb-true, lt-ltb}
-use lib.Dec.{ltb}
 use lib.ListN.{length, getD, take, set, length-map, length-set}
 use lib.Seq.{take-suc, take-suc-set, take-all}
 use Rattle.model.specs.Distance.{difference}
-use Rattle.model.specs.Location.{Side, at-first, at-second, gap}
-use Rattle.model.specs.Limits.{maxEvents}
-use Rattle.model.proofs.Laws.Counting.{count-mono, count-at-most}
+use Rattle.model.specs.Location.{Side, gap}
+use Rattle.model.proofs.Laws.Counting.{count-mono}
 use Rattle.model.proofs.Laws.Lists.{map-at}
 use Rattle.neighbor_sharing.proofs.Laws.Moving.{at-most}
 use Rattle.neighbor_sharing.proofs.Laws.OneWay.{passes-self, add-up, rest-in, from-rest}
 use Rattle.neighbor_sharing.specs.Cursors.{rest, moves}
-use Rattle.neighbor_sharing.specs.Sweeping.{sideOf, reach, reached, standing, resting, Ordered, Passes, Movable, Sweepable, Swept}
+use Rattle.neighbor_sharing.specs.Sweeping.{sideOf, reach, reached, standing, resting, Passes, Movable, Sweepable, Swept}
 use Rattle.neighbor_sharing.specs.declared.cursor.Cursor.{Cursor}
 
 -- more is reached with a greater reach

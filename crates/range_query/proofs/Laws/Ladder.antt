@@ -10,8 +10,8 @@ use native.Mathlib.Omega.{arith}
 use lib.ListN.{length, getD, set, length-set}
 use lib.Seq.{getD-set-same, getD-set-other}
 use Rattle.model.specs.Limits.{maxThresholds}
-use Rattle.range_query.specs.Ladder.{SpreadSteps, Skipped, Alone, CellsTo, CellsFilled}
-use Rattle.range_query.specs.Tally.{Bracket, Level, Celled, Spread}
+use Rattle.range_query.specs.Ladder.{SpreadSteps, Skipped, Alone, CellsFilled}
+use Rattle.range_query.specs.Tally.{lastStep, firstCell, cellCount, Bracket, Level, Celled, Spread}
 
 -- nothing stands behind the last step
 pub alone-last : (steps : List ℕ) (c end : ℕ) → c ≡ 63 → Alone steps c end
@@ -43,6 +43,13 @@ bracket-kept kept some w =
       passed = λ k h. rw (kept k (omega (arith, w .fits))) (w .passed k h);
       ahead = λ k h l. rw (kept k l) (w .ahead k h l);
     }
+
+-- the first n cells of so many metres name the one step that need be looked at, if the steps do not fall; the steps are kept
+pub record CellsTo (old : List ℕ) (width n : ℕ) (new : List ℕ) : Type 0 where
+  pub long : length new ≡ length old
+  pub kept : (k : ℕ) → k < maxThresholds → getD new k 0 ≡ getD old k 0
+  pub few : n ≤ cellCount
+  pub names : Level old → (d : ℕ) → d / width < n → d ≤ getD old lastStep 0 → Bracket old d (getD new (firstCell + d / width) 0) 1
 
 -- no cell yet
 pub cells-none : (old : List ℕ) (width : ℕ) → CellsTo old width 0 old

@@ -1,7 +1,6 @@
 -- The cells so far are right, and every step before the one in hand is below the next cell.
 use Prim.Native.Nat.{ℕ, suc, _-_, _*_, _≤_, _<_}
-use Rattle.range_query.proofs.Laws.Ladder.{cells-none, cells-more, cells-done, cells-not, passed-more, next-start}
-use Rattle.range_query.specs.Ladder.{CellsTo}
+use Rattle.range_query.proofs.Laws.Ladder.{CellsTo, cells-none, cells-more, cells-done, cells-not, passed-more, next-start}
 use borrow.Author.Needs.{needs}
 use borrow.Author.Tests.{not-false}
 use lib.ListN.{getD}

@@ -5,8 +5,8 @@ use Prim.Native.Nat.{_-_, _≤_}
 use native.Mathlib.Omega.{arith}
 use borrow.Author.Needs.{needs}
 use lib.ListN.{length, length-set}
-use Rattle.table.proofs.crowded.count_edges.Statement.{statement}
-use Rattle.table.proofs.crowded.count_edges.Tie as tie
+use Rattle.table.proofs.method.count_edges.Statement.{statement}
+use Rattle.table.proofs.method.count_edges.Tie as tie
 
 abbrev Inv-loop : tie.InvT-loop
 Inv-loop edges most flags₀ count₀ k₀ flags count k = (length flags ≡ length flags₀) × (count ≤ k) × (k ≤ length edges)

@@ -4,7 +4,7 @@ use model::Network;
 pub enum Method {
     RangeQuery,
     CountAugmentation,
-    NeighbourSharing,
+    NeighborSharing,
 }
 
 // A flag for each edge number, which begin with 1.
@@ -13,6 +13,7 @@ const FLAGS: usize = Network::MAX_EDGES + 1;
 // Pairs on one edge take as long as pairs with so many other edges (measured: docs/BENCHMARKS.md).
 const OWN_EDGE: usize = 14;
 
+// On so few edges neighbour sharing is fastest (measured there too).
 const VERY_FEW: usize = 3;
 
 // How many different edges have an event, so many at most. Numbers without a flag are passed over.
@@ -30,26 +31,27 @@ fn count_edges(edges: &[u32], most: usize, flags: &mut [u8]) -> usize {
     count
 }
 
-// The method that should be fastest: the range query takes a step for each two events of a set; count augmentation five sixths of
-// one for each event, edge and threshold; and on very few edges neighbour sharing is faster than that. Sets are of one size.
+// The method that should be fastest. The range query takes a step for each two events of a set; count augmentation five sixths of
+// one for each event, edge and threshold, pairs on one edge counted as on OWN_EDGE others; on up to VERY_FEW edges neighbour sharing
+// is faster than that. Sets are of one size.
 pub(crate) fn method_for(sets: &[u32], edges: &[u32], thresholds: &[u32]) -> Method {
-    let marks = thresholds.len();
-    if marks == 0 {
+    let times = thresholds.len();
+    if times == 0 {
         return Method::RangeQuery;
     }
     let set_size = edges.len() / (validate::greatest_set(sets) as usize + 1);
-    let steps = set_size / (marks - marks / 6);
+    let steps = set_size / (times - times / 6);
     if steps <= OWN_EDGE {
         return Method::RangeQuery;
     }
     let most = steps - OWN_EDGE;
     let mut flags = [0u8; FLAGS];
     let occupied = count_edges(edges, most, &mut flags);
+    if occupied == most {
+        return Method::RangeQuery;
+    }
     if occupied <= VERY_FEW {
-        return Method::NeighbourSharing;
+        return Method::NeighborSharing;
     }
-    if occupied < most {
-        return Method::CountAugmentation;
-    }
-    Method::RangeQuery
+    Method::CountAugmentation
 }
