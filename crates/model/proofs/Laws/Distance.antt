@@ -81,9 +81,6 @@ least-assoc c d e =
     (least-monotone (le-refl c) (least-left d e))
     (le-trans (least-right c (least d e)) (least-right d e)))
 
-pub least-self : (d : Distance) → least d d ≡ d
-least-self d = le-antisym (least-left d d) (least-greatest (le-refl d) (le-refl d))
-
 pub least-none : (d : Distance) → least d none ≡ d
 least-none d = le-antisym (least-left d none) (least-greatest (le-refl d) le-none)
 
@@ -120,14 +117,6 @@ pub plus-zero : (d : Distance) → plus d (metres 0) ≡ d
 unfolding plus
 plus-zero (metres m) = ap metres (omega arith)
 plus-zero none = refl
-
-pub zero-plus : (d : Distance) → plus (metres 0) d ≡ d
-zero-plus d = plus-comm (metres 0) d ∙ plus-zero d
-
-pub plus-none : (d : Distance) → plus d none ≡ none
-unfolding plus
-plus-none (metres m) = refl
-plus-none none = refl
 
 pub none-plus : (d : Distance) → plus none d ≡ none
 unfolding plus

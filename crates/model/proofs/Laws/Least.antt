@@ -28,12 +28,6 @@ above-all-below zero f h = le-none
 above-all-below (suc n) f h =
     least-greatest (above-all-below n f (λ i k. h i (omega arith))) (h n (omega arith))
 
--- the same for the least of a list
-pub below-member : {d : Distance} (ds : List Distance) → List·Memᴰ d ds → Le (leastOf ds) d
-unfolding leastOf
-below-member (e ∷ ds) (List·Memᴰ·head p) = le-trans (least-left e (leastOf ds)) (le-of-eq (sym p))
-below-member (e ∷ ds) (List·Memᴰ·tail m) = le-trans (least-right e (leastOf ds)) (below-member ds m)
-
 pub above-all-members : (ds : List Distance) {c : Distance} → ((d : Distance) → List·Memᴰ d ds → Le c d) → Le c (leastOf ds)
 unfolding leastOf
 above-all-members [] h = le-none

@@ -2,7 +2,7 @@
 use mathlib.Core.Bool.{Bool, true, false, cond, _||_, or-false}
 use mathlib.Core.Logic.{_⊎_, inl, inr}
 use mathlib.Core.Path.{_≡_, refl, sym, _∙_, ap}
-use Prim.Native.Nat.{ℕ, suc, _+_, _-_, _≤_, _<_, min}
+use Prim.Native.Nat.{ℕ, suc, _-_, _≤_, min}
 use native.Mathlib.Omega.{arith}
 use native.Mathlib.Decide.{decLe}
 use lib.Dec.{leb, eqb}
@@ -50,21 +50,6 @@ within-least (metres m) (metres n) t = by-tests (decLe m t) (decLe n t)
     by-tests (no h) (yes k) = simp (lt-leb m t (omega arith), le-leb n t k, le-leb (min m n) t (omega arith))
     by-tests (no h) (no k) = simp (lt-leb m t (omega arith), lt-leb n t (omega arith), lt-leb (min m n) t (omega arith))
 
--- with m metres before it, a distance is within t if it is within what m leaves of t
-pub within-after : (m : ℕ) (d : Distance) (t : ℕ) → m ≤ t → within (plus (metres m) d) t ≡ within d (t - m)
-unfolding within plus
-within-after m none t h = refl
-within-after m (metres n) t h = by-test (decLe n (t - m))
-  where
-    by-test : Dec (n ≤ t - m) → leb (m + n) t ≡ leb n (t - m)
-    by-test (yes k) = simp (le-leb n (t - m) k, le-leb (m + n) t (omega arith))
-    by-test (no k) = simp (lt-leb n (t - m) (omega arith), lt-leb (m + n) t (omega arith))
-
-pub beyond-after : (m : ℕ) (d : Distance) (t : ℕ) → t < m → within (plus (metres m) d) t ≡ false
-unfolding within plus
-beyond-after m none t h = refl
-beyond-after m (metres n) t h = lt-leb (m + n) t (omega arith)
-
 -- up to a bound a distance is itself if it is within the bound, else none
 pub bounded-within : (t : ℕ) (d : Distance) → within d t ≡ true → bounded t d ≡ d
 unfolding bounded
@@ -86,21 +71,6 @@ bounded-cases P t d inner outer = by-test (within d t) inner outer refl
     by-test : (b : Bool) → (within d t ≡ true → P d) → (within d t ≡ false → P none) → within d t ≡ b → P (cond b d none)
     by-test true f g p = f p
     by-test false f g p = g p
-
--- it is not below the distance
-pub le-bounded : (t : ℕ) (d : Distance) → Le d (bounded t d)
-le-bounded t d = bounded-cases (Le d) t d (λ p. le-refl d) (λ p. le-none)
-
--- and if it is a number of metres, these are within the bound
-pub bounded-is-within : (t n : ℕ) (d : Distance) → bounded t d ≡ metres n → n ≤ t
-unfolding within
-bounded-is-within t n d =
-    bounded-cases
-    (λ x. x ≡ metres n → n ≤ t)
-    t
-    d
-    (λ p q. leb-true n t (rw q at p))
-    (λ p q. let z : _≡_ {A = ℕ} 0 1 = cc in absurd (omega arith))
 
 -- a bound does not change a test against what is within it
 pub within-bounded : {s t : ℕ} (d : Distance) → s ≤ t → within (bounded t d) s ≡ within d s
