@@ -26,19 +26,26 @@ fn around(name: &[u8], radius: u32) {
 }
 
 // P10: edges of 12 and 2 between the same nodes.
+fn by_two_ways(name: &[u8], edge1: u32, offset1: u32, edge2: u32, offset2: u32) {
+    length(
+        name,
+        location_distance(
+            2,
+            &[1, 1],
+            &[2, 2],
+            &[12, 2],
+            edge1,
+            offset1,
+            edge2,
+            offset2,
+        ),
+    );
+}
+
 pub(crate) fn two_ways() {
-    length(
-        b"P10",
-        location_distance(2, &[1, 1], &[2, 2], &[12, 2], 1, 1, 1, 11),
-    );
-    length(
-        b"direct",
-        location_distance(2, &[1, 1], &[2, 2], &[12, 2], 1, 4, 1, 8),
-    );
-    length(
-        b"one node, two names",
-        location_distance(2, &[1, 1], &[2, 2], &[12, 2], 1, 12, 2, 2),
-    );
+    by_two_ways(b"P10", 1, 1, 1, 11);
+    by_two_ways(b"direct", 1, 4, 1, 8);
+    by_two_ways(b"one node, two names", 1, 12, 2, 2);
     length(
         b"parallel",
         node_distance(2, &[1, 1], &[2, 2], &[12, 2], 1, 2),
@@ -46,17 +53,18 @@ pub(crate) fn two_ways() {
 }
 
 // Two parts that do not hang together, and node 5 with no edge.
+fn in_parts(name: &[u8], u: u32, v: u32) {
+    length(name, node_distance(5, &[1, 3], &[2, 4], &[7, 9], u, v));
+}
+
 pub(crate) fn parts() {
-    length(b"joined", node_distance(5, &[1, 3], &[2, 4], &[7, 9], 1, 2));
-    length(
-        b"unjoined",
-        node_distance(5, &[1, 3], &[2, 4], &[7, 9], 1, 3),
-    );
-    length(
-        b"no edge",
-        node_distance(5, &[1, 3], &[2, 4], &[7, 9], 1, 5),
-    );
-    length(b"itself", node_distance(5, &[1, 3], &[2, 4], &[7, 9], 5, 5));
+    in_parts(b"joined", 1, 2);
+    in_parts(b"unjoined", 1, 3);
+    in_parts(b"no edge", 1, 5);
+    in_parts(b"itself", 5, 5);
+}
+
+pub(crate) fn apart() {
     bounded(
         b"greatest bound",
         bounded_node_distance(5, &[1, 3], &[2, 4], &[7, 9], 4294967295, 1, 3),
@@ -67,32 +75,32 @@ pub(crate) fn parts() {
     );
 }
 
-// The bound itself is within, one less is beyond; places at both ends of an edge.
+// Edges of 5 and 4 one behind the other: the bound itself is within, one less is beyond.
+fn within(name: &[u8], bound: u32, u: u32, v: u32) {
+    bounded(
+        name,
+        bounded_node_distance(3, &[1, 2], &[2, 3], &[5, 4], bound, u, v),
+    );
+}
+
+pub(crate) fn bounds() {
+    within(b"at the bound", 9, 1, 3);
+    within(b"below it", 8, 1, 3);
+    within(b"bound 0", 0, 1, 2);
+    within(b"bound 0, itself", 0, 2, 2);
+}
+
+fn between(name: &[u8], edge1: u32, offset1: u32, edge2: u32, offset2: u32) {
+    length(
+        name,
+        location_distance(3, &[1, 2], &[2, 3], &[5, 4], edge1, offset1, edge2, offset2),
+    );
+}
+
+// Places at both ends of an edge.
 pub(crate) fn places() {
-    bounded(
-        b"at the bound",
-        bounded_node_distance(3, &[1, 2], &[2, 3], &[5, 4], 9, 1, 3),
-    );
-    bounded(
-        b"below it",
-        bounded_node_distance(3, &[1, 2], &[2, 3], &[5, 4], 8, 1, 3),
-    );
-    bounded(
-        b"bound 0",
-        bounded_node_distance(3, &[1, 2], &[2, 3], &[5, 4], 0, 1, 2),
-    );
-    bounded(
-        b"bound 0, itself",
-        bounded_node_distance(3, &[1, 2], &[2, 3], &[5, 4], 0, 2, 2),
-    );
-    length(
-        b"end to end",
-        location_distance(3, &[1, 2], &[2, 3], &[5, 4], 1, 0, 2, 4),
-    );
-    length(
-        b"same node",
-        location_distance(3, &[1, 2], &[2, 3], &[5, 4], 1, 5, 2, 0),
-    );
+    between(b"end to end", 1, 0, 2, 4);
+    between(b"same node", 1, 5, 2, 0);
 }
 
 // The greatest length.
@@ -105,6 +113,9 @@ pub(crate) fn long_edges() {
         b"between",
         location_distance(3, &[1, 2], &[2, 3], &[1000000, 1000000], 1, 999999, 2, 1),
     );
+}
+
+pub(crate) fn too_long() {
     counted(
         b"far off",
         perimeter_count(3, &[1, 2], &[2, 3], &[1000000, 1000000], 1, 500000, 400000),
@@ -116,28 +127,26 @@ pub(crate) fn long_edges() {
 }
 
 // Rows of bounded distances: 0 is beyond, else one more than the metres; surplus is kept.
-pub(crate) fn rows() {
+fn row_from(name: &[u8], source: u32) {
     let mut row = [7, 7, 7, 7, 7];
     distance::distances_from(
         4,
         &[1, 2, 3, 3],
         &[2, 3, 1, 4],
         &[5, 4, 3, 6],
-        1,
+        source,
         5,
         &mut row,
     );
-    list(b"from 1 within 5", &row);
-    distance::distances_from(
-        4,
-        &[1, 2, 3, 3],
-        &[2, 3, 1, 4],
-        &[5, 4, 3, 6],
-        5,
-        5,
-        &mut row,
-    );
-    list(b"refused, kept", &row);
+    list(name, &row);
+}
+
+pub(crate) fn rows() {
+    row_from(b"from 1 within 5", 1);
+    row_from(b"refused, kept", 5);
+}
+
+pub(crate) fn wanted_row() {
     let mut table = [7, 7, 7, 7];
     distance::end_distances(
         2,
@@ -151,17 +160,15 @@ pub(crate) fn rows() {
     list(b"second row wanted", &table);
 }
 
-// 7, 13 and 14 at place 0, and 2 for a list of edges cut short.
+// 7, 13 and 14 at place 0.
 pub(crate) fn refused() {
     length(b"node 0", node_distance(3, &[1, 2], &[2, 3], &[5, 4], 0, 3));
-    length(
-        b"edge 3",
-        location_distance(3, &[1, 2], &[2, 3], &[5, 4], 1, 0, 3, 0),
-    );
-    length(
-        b"offset 6",
-        location_distance(3, &[1, 2], &[2, 3], &[5, 4], 1, 6, 2, 0),
-    );
+    between(b"edge 3", 1, 0, 3, 0);
+    between(b"offset 6", 1, 6, 2, 0);
+}
+
+// 14 at place 0, and 2 for a list of edges cut short.
+pub(crate) fn refused_counts() {
     counted(
         b"offset 5",
         perimeter_count(3, &[1, 2], &[2, 3], &[5, 4], 2, 5, 1),

@@ -7,8 +7,13 @@ fn main() {
     cases::perimeters();
     cases::two_ways();
     cases::parts();
+    cases::apart();
+    cases::bounds();
     cases::places();
     cases::long_edges();
+    cases::too_long();
     cases::rows();
+    cases::wanted_row();
     cases::refused();
+    cases::refused_counts();
 }

@@ -2,36 +2,27 @@
 use crate::show::list;
 use crate::show::verdict;
 
-// 12 to 14 and 16, over a network of two edges.
+// What the check of sets says of events on a network of two edges.
+fn in_sets(name: &[u8], sets: &[u32], edges: &[u32], offsets: &[u32]) {
+    verdict(
+        name,
+        validate::check_sets(3, &[1, 2], &[2, 3], &[5, 4], sets, edges, offsets),
+    );
+}
+
+// 12 to 14.
 pub(crate) fn sets() {
-    verdict(
-        b"sets",
-        validate::check_sets(3, &[1, 2], &[2, 3], &[5, 4], &[0, 1], &[1, 2], &[5, 4]),
-    );
-    verdict(
-        b"set 32",
-        validate::check_sets(3, &[1, 2], &[2, 3], &[5, 4], &[0, 32], &[1, 3], &[5, 4]),
-    );
-    verdict(
-        b"edge 3 of 2",
-        validate::check_sets(3, &[1, 2], &[2, 3], &[5, 4], &[0, 1], &[1, 3], &[9, 4]),
-    );
-    verdict(
-        b"offset 6 of 5",
-        validate::check_sets(3, &[1, 2], &[2, 3], &[5, 4], &[0, 1], &[1, 2], &[6, 4]),
-    );
-    verdict(
-        b"set 2 alone",
-        validate::check_sets(3, &[1, 2], &[2, 3], &[5, 4], &[0, 2], &[1, 2], &[5, 4]),
-    );
-    verdict(
-        b"no events",
-        validate::check_sets(3, &[1, 2], &[2, 3], &[5, 4], &[], &[], &[]),
-    );
-    verdict(
-        b"sets missing",
-        validate::check_sets(3, &[1, 2], &[2, 3], &[5, 4], &[0], &[1, 2], &[5, 4]),
-    );
+    in_sets(b"sets", &[0, 1], &[1, 2], &[5, 4]);
+    in_sets(b"set 32", &[0, 32], &[1, 3], &[5, 4]);
+    in_sets(b"edge 3 of 2", &[0, 1], &[1, 3], &[9, 4]);
+    in_sets(b"offset 6 of 5", &[0, 1], &[1, 2], &[6, 4]);
+}
+
+// 16 and 2.
+pub(crate) fn set_sizes() {
+    in_sets(b"set 2 alone", &[0, 2], &[1, 2], &[5, 4]);
+    in_sets(b"no events", &[], &[], &[]);
+    in_sets(b"sets missing", &[0], &[1, 2], &[5, 4]);
 }
 
 // 15: the 8,193rd event; 13 comes before it wherever it stands.
@@ -58,24 +49,20 @@ fn crowd(name: &[u8], many: &[u32]) {
     );
 }
 
+// What the check of events given as laid out says, with an edge asked for.
+fn in_order(name: &[u8], edges: &[u32], offsets: &[u32], edge: u32) {
+    verdict(
+        name,
+        validate::check_laid_out(3, &[1, 2], &[2, 3], &[5, 4], edges, offsets, edge),
+    );
+}
+
 // 17.
-pub(crate) fn in_order() {
-    verdict(
-        b"laid out",
-        validate::check_laid_out(3, &[1, 2], &[2, 3], &[5, 4], &[1, 1, 2], &[3, 3, 0], 2),
-    );
-    verdict(
-        b"offset below",
-        validate::check_laid_out(3, &[1, 2], &[2, 3], &[5, 4], &[1, 1, 2], &[3, 2, 0], 2),
-    );
-    verdict(
-        b"edge below",
-        validate::check_laid_out(3, &[1, 2], &[2, 3], &[5, 4], &[1, 2, 1], &[3, 3, 4], 2),
-    );
-    verdict(
-        b"edge asked for",
-        validate::check_laid_out(3, &[1, 2], &[2, 3], &[5, 4], &[1, 2, 1], &[3, 3, 4], 0),
-    );
+pub(crate) fn orders() {
+    in_order(b"laid out", &[1, 1, 2], &[3, 3, 0], 2);
+    in_order(b"offset below", &[1, 1, 2], &[3, 2, 0], 2);
+    in_order(b"edge below", &[1, 2, 1], &[3, 3, 4], 2);
+    in_order(b"edge asked for", &[1, 2, 1], &[3, 3, 4], 0);
 }
 
 // 18 and 19.
@@ -108,48 +95,27 @@ pub(crate) fn laid_out() {
     list(b"kept", &short);
 }
 
-// The events on an edge, and what is told beside them.
-pub(crate) fn stretches() {
-    let edges = [1, 1, 1, 2, 2];
-    let offsets = [1, 4, 4, 0, 3];
+// The events on an edge, and the number told beside them.
+fn stretch(name: &[u8], edge: u32) {
     let mut number = 9;
     let mut place = 9;
-    let first = layout::events_on(
+    let found = layout::events_on(
         3,
         &[1, 2],
         &[2, 3],
         &[5, 4],
-        &edges,
-        &offsets,
-        1,
+        &[1, 1, 1, 2, 2],
+        &[1, 4, 4, 0, 3],
+        edge,
         &mut number,
         &mut place,
     );
-    list(b"on edge 1", first);
-    let second = layout::events_on(
-        3,
-        &[1, 2],
-        &[2, 3],
-        &[5, 4],
-        &edges,
-        &offsets,
-        2,
-        &mut number,
-        &mut place,
-    );
-    list(b"on edge 2", second);
+    list(name, found);
     list(b"number", &[number]);
-    let none = layout::events_on(
-        3,
-        &[1, 2],
-        &[2, 3],
-        &[5, 4],
-        &edges,
-        &offsets,
-        3,
-        &mut number,
-        &mut place,
-    );
-    list(b"on edge 3", none);
-    list(b"number", &[number]);
+}
+
+pub(crate) fn stretches() {
+    stretch(b"on edge 1", 1);
+    stretch(b"on edge 2", 2);
+    stretch(b"on edge 3", 3);
 }

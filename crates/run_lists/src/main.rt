@@ -7,13 +7,15 @@ fn main() {
     networks::sizes();
     networks::many_edges();
     networks::most_edges();
-    networks::edges();
+    networks::ends();
+    networks::lengths();
     networks::lone_numbers();
     events::sets();
+    events::set_sizes();
     events::crowded();
     events::full();
     events::crowded_behind();
-    events::in_order();
+    events::orders();
     events::thresholds();
     events::laid_out();
     events::stretches();

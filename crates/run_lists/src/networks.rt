@@ -1,28 +1,21 @@
 // Network lists.
 use crate::show::verdict;
 
+// What the check of a network says.
+fn network(name: &[u8], nodes: u32, firsts: &[u32], seconds: &[u32], lengths: &[u32]) {
+    verdict(
+        name,
+        validate::check_network(nodes, firsts, seconds, lengths),
+    );
+}
+
 // 6, and 2.
 pub(crate) fn sizes() {
-    verdict(
-        b"network",
-        validate::check_network(3, &[1, 2], &[2, 3], &[5, 4]),
-    );
-    verdict(
-        b"lengths missing",
-        validate::check_network(3, &[1, 2], &[2, 3], &[5]),
-    );
-    verdict(
-        b"no node",
-        validate::check_network(0, &[1, 2], &[2, 3], &[5, 4]),
-    );
-    verdict(
-        b"513 nodes",
-        validate::check_network(513, &[1, 2], &[2, 3], &[5, 4]),
-    );
-    verdict(
-        b"512 nodes",
-        validate::check_network(512, &[1, 2], &[2, 512], &[5, 4]),
-    );
+    network(b"network", 3, &[1, 2], &[2, 3], &[5, 4]);
+    network(b"lengths missing", 3, &[1, 2], &[2, 3], &[5]);
+    network(b"no node", 0, &[1, 2], &[2, 3], &[5, 4]);
+    network(b"513 nodes", 513, &[1, 2], &[2, 3], &[5, 4]);
+    network(b"512 nodes", 512, &[1, 2], &[2, 512], &[5, 4]);
 }
 
 // 6 for the edges: 1,025 and 1,024 of them.
@@ -39,34 +32,28 @@ pub(crate) fn most_edges() {
 }
 
 fn edges_of(name: &[u8], ones: &[u32], twos: &[u32]) {
-    verdict(name, validate::check_network(2, ones, twos, ones));
+    network(name, 2, ones, twos, ones);
 }
 
-// 7 to 9.
-pub(crate) fn edges() {
+// 7 and 8.
+pub(crate) fn ends() {
+    network(b"node 4 of 3", 3, &[1, 2], &[2, 4], &[5, 4]);
+    network(b"node 0", 3, &[0, 2], &[2, 4], &[5, 4]);
+    network(b"itself", 3, &[1, 2], &[2, 2], &[5, 0]);
+}
+
+// 9.
+pub(crate) fn lengths() {
+    network(b"length 0", 3, &[1, 2], &[2, 3], &[5, 0]);
+    network(b"length 1000000", 3, &[1, 2], &[2, 3], &[1000000, 1]);
+    network(b"length 1000001", 3, &[1, 2], &[2, 3], &[1000001, 0]);
+}
+
+// What the check of two locations says, on a network of two edges.
+fn locations(name: &[u8], edge1: u32, offset1: u32, edge2: u32, offset2: u32) {
     verdict(
-        b"node 4 of 3",
-        validate::check_network(3, &[1, 2], &[2, 4], &[5, 4]),
-    );
-    verdict(
-        b"node 0",
-        validate::check_network(3, &[0, 2], &[2, 4], &[5, 4]),
-    );
-    verdict(
-        b"itself",
-        validate::check_network(3, &[1, 2], &[2, 2], &[5, 0]),
-    );
-    verdict(
-        b"length 0",
-        validate::check_network(3, &[1, 2], &[2, 3], &[5, 0]),
-    );
-    verdict(
-        b"length 1000000",
-        validate::check_network(3, &[1, 2], &[2, 3], &[1000000, 1]),
-    );
-    verdict(
-        b"length 1000001",
-        validate::check_network(3, &[1, 2], &[2, 3], &[1000001, 0]),
+        name,
+        validate::check_locations(3, &[1, 2], &[2, 3], &[5, 4], edge1, offset1, edge2, offset2),
     );
 }
 
@@ -80,16 +67,7 @@ pub(crate) fn lone_numbers() {
         b"lone node",
         validate::check_nodes(3, &[1, 2], &[2, 9], &[5, 4], 1, 4),
     );
-    verdict(
-        b"locations",
-        validate::check_locations(3, &[1, 2], &[2, 3], &[5, 4], 1, 5, 2, 0),
-    );
-    verdict(
-        b"lone edge",
-        validate::check_locations(3, &[1, 2], &[2, 3], &[5, 4], 1, 6, 3, 0),
-    );
-    verdict(
-        b"lone offset",
-        validate::check_locations(3, &[1, 2], &[2, 3], &[5, 4], 1, 5, 2, 5),
-    );
+    locations(b"locations", 1, 5, 2, 0);
+    locations(b"lone edge", 1, 6, 3, 0);
+    locations(b"lone offset", 1, 5, 2, 5);
 }

@@ -10,6 +10,7 @@ fn main() {
     tables::greatest_threshold();
     refused::empty();
     refused::files();
+    refused::long_texts();
     refused::order();
     limits::lengths();
     limits::thresholds();

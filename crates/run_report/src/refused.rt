@@ -30,6 +30,10 @@ pub(crate) fn files() {
         b"set,leg,offset\r\n0,1,5\r\n",
         b"threshold\r\n2\r\n5\r\n5\r\n",
     );
+}
+
+// 60,001 bytes.
+pub(crate) fn long_texts() {
     let long = [99u8; 60001];
     report(b"a text too long", &long, b"", b"");
     over_four(b"reports too long", &long, b"");

@@ -6,7 +6,9 @@ mod thresholds;
 
 fn main() {
     thresholds::accepted();
-    thresholds::refused();
+    thresholds::refused_lines();
+    thresholds::refused_numbers();
+    thresholds::refused_lists();
     events::accepted();
     events::refused_lines();
     events::refused_rows();
