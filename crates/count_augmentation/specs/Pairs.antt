@@ -10,7 +10,7 @@ use Rattle.model.specs.Limits.{maxEvents}
 use Rattle.model.specs.Network.{Network, first, second, size}
 use Rattle.prepare.specs.Prepared.{entry}
 use Rattle.count_augmentation.specs.Reach.{farthest, reached, Run}
-use Rattle.count_augmentation.specs.Storing.{OnEdge}
+use Rattle.prepare.specs.Offsets.{OnEdge}
 use Rattle.count_augmentation.specs.declared.pairs.EdgePair.{EdgePair}
 
 -- the entry of the lesser of two ways, and of the least of four; an entry of 0 is none

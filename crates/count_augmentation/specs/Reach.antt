@@ -3,13 +3,14 @@
 use mathlib.Core.Bool.{Bool, cond, _&&_, _||_}
 use mathlib.Core.List.{List}
 use mathlib.Core.Path.{_≡_}
-use Prim.Native.Nat.{ℕ, suc, pred, _+_, _-_, _≤_, min, max}
+use Prim.Native.Nat.{ℕ, suc, pred, _+_, _-_, _≤_, max}
 use lib.Dec.{eqb, leb, ltb}
 use lib.ListN.{length}
 use Rattle.model.specs.Counting.{countIf}
 use Rattle.model.specs.Distance.{difference}
 use Rattle.model.specs.Limits.{maxEvents, maxLength}
-use Rattle.count_augmentation.specs.Storing.{Rising, OnEdge, NumbersStored}
+use Rattle.prepare.specs.Offsets.{Ordered, OnEdge}
+use Rattle.count_augmentation.specs.Storing.{NumbersStored}
 
 -- by one end: a is the gap to it, and the entry is the code of the distance from it
 unfoldable pub reachOf : ℕ → ℕ → ℕ → ℕ
@@ -28,14 +29,10 @@ reached q to-first to-second own t x ys = countIf (isReached q to-first to-secon
 
 -- the rising offsets of an edge of length q, with their stored numbers
 pub record Run (q : ℕ) (ys near-first near-second : List ℕ) : Type 0 where
-  pub rising : Rising ys
+  pub rising : Ordered ys
   pub on-edge : OnEdge q ys
   pub few : length ys ≤ maxEvents
   pub short : q ≤ maxLength
   pub first-length : length near-first ≡ length ys
   pub second-length : length near-second ≡ length ys
   pub stored : NumbersStored q ys near-first near-second
-
--- of n places the first p, the last q, and those from below on up to before upto: the overlaps counted once
-unfoldable pub together : ℕ → ℕ → ℕ → ℕ → ℕ → ℕ
-together n p q below upto = n - (min below (n - q) - p) - ((n - q) - max upto p)

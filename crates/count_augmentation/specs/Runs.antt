@@ -4,7 +4,8 @@ use Prim.Native.Nat.{ℕ, suc, _≤_, _<_}
 use lib.ListN.{length, getD}
 use Rattle.model.specs.Limits.{maxEvents}
 use Rattle.prepare.specs.RunPairs.{partOf}
-use Rattle.count_augmentation.specs.Storing.{Rising, OnEdge, NumbersStored}
+use Rattle.prepare.specs.Offsets.{Ordered, OnEdge}
+use Rattle.count_augmentation.specs.Storing.{NumbersStored}
 
 -- run k lies within the lists, and its offsets rise
 pub record RunStorable (xs bounds near-first near-second : List ℕ) (k : ℕ) : Type 0 where
@@ -13,7 +14,7 @@ pub record RunStorable (xs bounds near-first near-second : List ℕ) (k : ℕ) :
   pub in-first : getD bounds (suc k) 0 ≤ length near-first
   pub in-second : getD bounds (suc k) 0 ≤ length near-second
   pub few : getD bounds (suc k) 0 ≤ maxEvents
-  pub rising : Rising (partOf bounds k xs)
+  pub rising : Ordered (partOf bounds k xs)
 
 -- the runs from r up to before q do
 pub record RunsStorable (xs bounds near-first near-second : List ℕ) (r q : ℕ) : Type 0 where

@@ -7,11 +7,8 @@ use lib.ListN.{length, getD}
 use Rattle.model.specs.Counting.{countIf}
 use Rattle.model.specs.Limits.{maxEvents}
 use Rattle.model.specs.Location.{at-first, at-second}
+use Rattle.prepare.specs.Offsets.{Ordered}
 use Rattle.count_augmentation.specs.Augmented.{noFarther}
-
--- no offset is below one before it
-pub record Rising (xs : List ℕ) : Type 0 where
-  pub up : (j k : ℕ) → j ≤ k → k < length xs → getD xs j 0 ≤ getD xs k 0
 
 -- how many offsets are at most x, and how many at least x
 unfoldable pub atMost : List ℕ → ℕ → ℕ
@@ -20,13 +17,9 @@ atMost xs x = countIf (λ y. leb y x) xs
 unfoldable pub atLeast : List ℕ → ℕ → ℕ
 atLeast xs x = countIf (λ y. leb x y) xs
 
--- no offset is beyond an edge of length p
-pub record OnEdge (p : ℕ) (xs : List ℕ) : Type 0 where
-  pub on : (k : ℕ) → k < length xs → getD xs k 0 ≤ p
-
 -- rising offsets of one edge, and as much room for each list of numbers
 pub record Storable (xs near : List ℕ) : Type 0 where
-  pub rising : Rising xs
+  pub rising : Ordered xs
   pub few : length xs ≤ maxEvents
   pub room : length near ≡ length xs
 

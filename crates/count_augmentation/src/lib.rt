@@ -1,7 +1,6 @@
 // Count augmentation: pair counts from stored numbers, looked up by binary search.
 mod events;
 mod look_up;
-mod number;
 mod pairs;
 mod reach;
 mod runs;

@@ -4,7 +4,8 @@ ghost use mathlib.Core.Path.{_≡_};
 ghost use Prim.Native.Nat.{_/_, _≤_};
 ghost use lib.Dec.{ltb};
 ghost use lib.ListN.{length, getD};
-ghost use Rattle.count_augmentation.specs.Storing.{Rising, Bracket, Parted, storedBefore, placeOf};
+ghost use Rattle.prepare.specs.Offsets.{Ordered};
+ghost use Rattle.count_augmentation.specs.Storing.{Bracket, Parted, storedBefore, placeOf};
 
 // So many places are halved away by four halvings.
 const LAST_FEW: usize = 15;
@@ -18,7 +19,7 @@ fn passed(offset: u32, limit: u64, places: usize) -> usize
 
 // Halves the places among which the first whose offset is not below a limit is looked for.
 fn halve(offsets: &[u32], limit: u64, low: usize, left: usize) -> usize
-    requires { ⌜ Rising (now offsets) × Bracket (now offsets) limit low left × (1 ≤ left) ⌝ }
+    requires { ⌜ Ordered (now offsets) × Bracket (now offsets) limit low left × (1 ≤ left) ⌝ }
     ensures { λ r. ⌜ Bracket (now (offsets .entry)) limit r (left / 2) ⌝ }
 {
     let half = left - left / 2;
@@ -27,7 +28,7 @@ fn halve(offsets: &[u32], limit: u64, low: usize, left: usize) -> usize
 
 // That place, with at most LAST_FEW places left to look at: four halvings. No loop, so that it compiles with no branch on what is found.
 fn place_among(offsets: &[u32], limit: u64, low: usize, left: usize) -> usize
-    requires { ⌜ Rising (now offsets) × Bracket (now offsets) limit low left × (left ≤ 15) ⌝ }
+    requires { ⌜ Ordered (now offsets) × Bracket (now offsets) limit low left × (left ≤ 15) ⌝ }
     ensures { λ r. ⌜ Parted (now (offsets .entry)) limit r ⌝ }
 {
     if left == 0 {
@@ -50,7 +51,7 @@ fn place_among(offsets: &[u32], limit: u64, low: usize, left: usize) -> usize
 
 // The first place whose offset is not below a limit, or the length.
 fn place_of(offsets: &[u32], limit: u64) -> usize
-    requires { ⌜ Rising (now offsets) ⌝ }
+    requires { ⌜ Ordered (now offsets) ⌝ }
     ensures { λ r. ⌜ Parted (now (offsets .entry)) limit r ⌝ }
 {
     let mut low = 0;
@@ -64,7 +65,7 @@ fn place_of(offsets: &[u32], limit: u64) -> usize
 
 // What is stored for the first end with the last offset below a limit, 0 if there is none: read, whatever the list holds.
 pub(crate) fn count_below(offsets: &[u32], near_first: &[u32], limit: u64) -> u32
-    requires { ⌜ Rising (now offsets) × (length (now «near_first») ≡ length (now offsets)) ⌝ }
+    requires { ⌜ Ordered (now offsets) × (length (now «near_first») ≡ length (now offsets)) ⌝ }
     ensures { λ r. ⌜ r ≡ storedBefore (now («near_first» .entry)) (placeOf (now (offsets .entry)) limit) ⌝ }
 {
     let place = place_of(offsets, limit);
@@ -76,7 +77,7 @@ pub(crate) fn count_below(offsets: &[u32], near_first: &[u32], limit: u64) -> u3
 
 // What is stored for the second end with the first offset not below a limit, 0 if there is none: read, whatever the list holds.
 pub(crate) fn count_from(offsets: &[u32], near_second: &[u32], limit: u64) -> u32
-    requires { ⌜ Rising (now offsets) × (length (now «near_second») ≡ length (now offsets)) ⌝ }
+    requires { ⌜ Ordered (now offsets) × (length (now «near_second») ≡ length (now offsets)) ⌝ }
     ensures { λ r. ⌜ r ≡ getD (now («near_second» .entry)) (placeOf (now (offsets .entry)) limit) 0 ⌝ }
 {
     let place = place_of(offsets, limit);

@@ -8,7 +8,7 @@ ghost use Rattle.model.specs.Network.{network};
 ghost use Rattle.prepare.specs.EndTable.{EndTable, TableEntry};
 ghost use Rattle.count_augmentation.specs.Pairs.{lesserEntry, leastEntry, edgePair, reachedBy, reachedPairs, TwoRuns};
 ghost use Rattle.count_augmentation.specs.Reach.{Run};
-ghost use Rattle.count_augmentation.specs.Storing.{OnEdge};
+ghost use Rattle.prepare.specs.Offsets.{OnEdge};
 use crate::reach::count_reached;
 use crate::reach::reach;
 use crate::reach::reach_by;

@@ -2,12 +2,13 @@
 ghost use mathlib.Core.Bool.{true, false};
 ghost use mathlib.Core.Path.{_≡_};
 ghost use Prim.Native.Nat.{_≤_};
-ghost use Rattle.count_augmentation.specs.Reach.{reachOf, farthest, reached, Run, together};
+ghost use Rattle.count_augmentation.specs.Reach.{reachOf, farthest, reached, Run};
 use crate::look_up::count_below;
 use crate::look_up::count_from;
-use crate::number::greater;
-use crate::number::less;
-use crate::number::lesser;
+use model::covered;
+use model::greater;
+use model::less;
+use model::lesser;
 
 // The reach by one end: a gap, and the entry of a distance.
 pub(crate) fn reach_by(threshold: u32, gap: u32, entry: u32) -> u64
@@ -28,16 +29,6 @@ pub(crate) fn reach(threshold: u32, size: u32, offset: u32, by_first: u32, by_se
         reach_by(threshold, offset, by_first),
         reach_by(threshold, size - offset, by_second),
     )
-}
-
-// Of so many places the first, the last and a window, the overlaps taken off.
-fn union(places: u64, first: u64, last: u64, below: u64, upto: u64) -> u64
-    ensures { λ r. ⌜ r ≡ together places first last below upto ⌝ }
-{
-    let rest = less(places, last);
-    let before_window = less(lesser(below, rest), first);
-    let behind_window = less(rest, greater(upto, first));
-    less(less(places, before_window), behind_window)
 }
 
 // On another edge: from its two ends, at most all of the run. Nothing is looked up where neither end is within reach, or the whole
@@ -97,7 +88,7 @@ fn count_around(
         less(offset as u64, threshold as u64),
     ) as u64;
     let upto = count_below(offsets, near_first, offset as u64 + threshold as u64 + 1) as u64;
-    union(places, first, last, less(places, from_window), upto)
+    covered(places, first, last, less(places, from_window), upto)
 }
 
 // How many offsets of a run an event reaches, its own included.

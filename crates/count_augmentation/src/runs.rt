@@ -3,8 +3,14 @@ ghost use mathlib.Core.Path.{_≡_};
 ghost use Prim.Native.Nat.{pred, _≤_, _<_};
 ghost use lib.ListN.{length, getD};
 ghost use Rattle.count_augmentation.specs.Runs.{RunsStorable, RunsStored};
-use crate::number::wide;
 use crate::store::store;
+
+// A number of a list as a place or a size.
+fn wide(x: u32) -> usize
+    ensures { λ r. ⌜ r ≡ x ⌝ }
+{
+    x as usize
+}
 
 // The place at which a run begins, or the one before it ends.
 pub(crate) fn bound(bounds: &[u32], r: usize) -> usize

@@ -1,7 +1,7 @@
--- Sums, counts and membership over the numbers below a bound and over lists.
+-- Sums, counts and membership over the numbers below a bound and over lists, and what several stretches of places cover.
 use mathlib.Core.Bool.{Bool, true, false, cond}
 use mathlib.Core.List.{List, [], _∷_, _++_, List·Memᴰ}
-use Prim.Native.Nat.{ℕ, zero, suc, _+_}
+use Prim.Native.Nat.{ℕ, zero, suc, _+_, _-_, min, max}
 
 -- f 0 + f 1 + .. + f (n - 1)
 unfoldable pub sumBelow : ℕ → (ℕ → ℕ) → ℕ
@@ -21,6 +21,10 @@ countBelow n test = sumBelow n (λ i. one-if (test i))
 unfoldable pub countIf : {A : Type 0} → (A → Bool) → List A → ℕ
 countIf test [] = 0
 countIf test (x ∷ xs) = one-if (test x) + countIf test xs
+
+-- of n places the first p, the last q, and those from below on up to before upto: what overlaps counts once
+abbrev pub covered : ℕ → ℕ → ℕ → ℕ → ℕ → ℕ
+covered n p q below upto = n - (min below (n - q) - p) - ((n - q) - max upto p)
 
 -- the numbers start, start + 1, .., n of them
 unfoldable pub numbersFrom : ℕ → ℕ → List ℕ

@@ -2,6 +2,7 @@
 mod check;
 mod event_set;
 mod network;
+mod number;
 mod thresholds;
 
 pub use check::Check;
@@ -10,5 +11,10 @@ pub use event_set::EventSet;
 pub use event_set::MadeEventSet;
 pub use network::MadeNetwork;
 pub use network::Network;
+pub use number::apart;
+pub use number::covered;
+pub use number::greater;
+pub use number::less;
+pub use number::lesser;
 pub use thresholds::MadeThresholds;
 pub use thresholds::Thresholds;

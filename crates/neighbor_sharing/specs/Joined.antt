@@ -2,10 +2,10 @@
 use mathlib.Core.Bool.{Bool, false, _&&_, _||_}
 use mathlib.Core.List.{List}
 use mathlib.Core.Path.{_≡_}
-use Prim.Native.Nat.{ℕ, _-_, _<_, min, max}
+use Prim.Native.Nat.{ℕ, _<_, max}
 use lib.Dec.{leb}
 use lib.ListN.{length, getD}
-use Rattle.model.specs.Counting.{sumBelow, countIf}
+use Rattle.model.specs.Counting.{sumBelow, countIf, covered}
 use Rattle.model.specs.Distance.{difference}
 use Rattle.model.specs.Location.{Side, at-first, at-second, gap, reaches}
 use Rattle.neighbor_sharing.specs.Six.{distanceBetween}
@@ -13,14 +13,10 @@ use Rattle.neighbor_sharing.specs.Stands.{standsAt}
 use Rattle.neighbor_sharing.specs.declared.moving.Stands.{Stands}
 use Rattle.neighbor_sharing.specs.declared.sweep.Edges.{Edges}
 
--- of n places the first ff or sf, the last fs or ss, and those from low on up to before high, each place once
-unfoldable pub joined : ℕ → ℕ → ℕ → ℕ → ℕ → ℕ → ℕ → ℕ
-joined n ff fs sf ss low high =
-    n - (min low (n - max fs ss) - max ff sf) - ((n - max fs ss) - max high (max ff sf))
-
--- how many of the n events of the second edge are reached, by where the six cursors stand
+-- how many of the n events of the second edge are reached, by where the six cursors stand: the first ones by the two routes that
+-- arrive at its first end, the last ones by those that arrive at its second, and the window
 unfoldable pub joinedOf : ℕ → Stands → ℕ
-joinedOf n m = joined n (m .ff) (m .fs) (m .sf) (m .ss) (m .low) (m .high)
+joinedOf n m = covered n (max (m .ff) (m .sf)) (max (m .fs) (m .ss)) (m .low) (m .high)
 
 -- the events of the second edge that are reached from the offset x of the first, by the six positions there
 unfoldable pub joinedFrom : ℕ → Edges → List ℕ → ℕ → ℕ

@@ -11,7 +11,8 @@ use Rattle.model.specs.Location.{Side, at-first, at-second}
 use Rattle.model.specs.declared.check.Check.the-variants.{Accepted}
 use Rattle.neighbor_sharing.specs.Answers.{marked, markedIf}
 use Rattle.neighbor_sharing.specs.Cursors.{positions, below, upTo, rest, moves}
-use Rattle.neighbor_sharing.specs.Sweeping.{Ordered, Small, standing, resting}
+use Rattle.prepare.specs.Offsets.{Ordered, OnEdge}
+use Rattle.neighbor_sharing.specs.Sweeping.{Small, standing, resting}
 use Rattle.neighbor_sharing.specs.declared.cursor.Cursor.{Cursor}
 use Rattle.neighbor_sharing.specs.declared.sweep.Edges.{Edges}
 
@@ -64,7 +65,7 @@ distanceBetween w s s′ = decoded (codeBetween w s s′)
 -- the offsets of events on an edge of length p, in rising order
 pub record Laid (p : ℕ) (xs : List ℕ) : Type 0 where
   pub ordered : Ordered xs
-  pub on-edge : (k : ℕ) → k < length xs → getD xs k 0 ≤ p
+  pub on-edge : OnEdge p xs
   pub few : length xs ≤ maxEvents
 
 -- on two edges

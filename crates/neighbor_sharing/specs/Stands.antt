@@ -6,7 +6,8 @@ use lib.ListN.{length}
 use Rattle.model.specs.Location.{Side, at-first, at-second}
 use Rattle.neighbor_sharing.specs.Cursors.{position, below, upTo, rest}
 use Rattle.neighbor_sharing.specs.Six.{distanceBetween}
-use Rattle.neighbor_sharing.specs.Sweeping.{Ordered, Passes}
+use Rattle.prepare.specs.Offsets.{Ordered}
+use Rattle.neighbor_sharing.specs.Sweeping.{Passes}
 use Rattle.neighbor_sharing.specs.declared.moving.Stands.{Stands}
 use Rattle.neighbor_sharing.specs.declared.sweep.Edges.{Edges}
 

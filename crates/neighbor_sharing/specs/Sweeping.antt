@@ -8,6 +8,7 @@ use lib.ListN.{length, getD}
 use Rattle.model.specs.Counting.{countIf}
 use Rattle.model.specs.Limits.{maxEvents}
 use Rattle.model.specs.Location.{Side, at-first, at-second, gap}
+use Rattle.prepare.specs.Offsets.{Ordered}
 use Rattle.neighbor_sharing.specs.Cursors.{rest, moves}
 use Rattle.neighbor_sharing.specs.declared.cursor.Cursor.{Cursor}
 
@@ -47,10 +48,6 @@ belowCursor t = record { falling = false; plus = 0; minus = t; first = true }
 
 unfoldable pub upToCursor : ℕ → Cursor
 upToCursor t = record { falling = false; plus = t + 1; minus = 0; first = true }
-
--- offsets in rising order
-pub record Ordered (xs : List ℕ) : Type 0 where
-  pub in-order : (i j : ℕ) → i ≤ j → j < length xs → getD xs i 0 ≤ getD xs j 0
 
 -- a cursor whose sums fit
 pub record Small (c : Cursor) : Type 0 where

@@ -1,9 +1,11 @@
 // One cursor: how many events of the second edge are reached from an event of the first, seen from an end of the second edge.
+use model::less;
 ghost use mathlib.Core.Path.{_≡_};
-ghost use Prim.Native.Nat.{_-_, _≤_, _<_};
+ghost use Prim.Native.Nat.{_≤_, _<_};
 ghost use lib.Dec.{ltb};
 ghost use lib.ListN.{length};
-ghost use Rattle.neighbor_sharing.specs.Sweeping.{sideOf, reach, reached, standing, resting, Ordered, Small, Movable, routeCursor, routeOrNone, belowCursor, upToCursor};
+ghost use Rattle.prepare.specs.Offsets.{Ordered};
+ghost use Rattle.neighbor_sharing.specs.Sweeping.{sideOf, reach, reached, standing, resting, Small, Movable, routeCursor, routeOrNone, belowCursor, upToCursor};
 
 // A cursor of any kind. Its reach on the second edge is (plus) less (the offset on the first edge and minus) if it is falling,
 // else (the offset and plus) less (minus); it counts the events whose gap to the first or the second end is below its reach.
@@ -12,16 +14,6 @@ pub struct Cursor {
     pub plus: u64,
     pub minus: u64,
     pub first: bool,
-}
-
-// a less b, 0 if b is greater.
-pub(crate) fn less(a: u64, b: u64) -> u64
-    ensures { λ r. ⌜ r ≡ a - b ⌝ }
-{
-    if a < b {
-        return 0;
-    }
-    a - b
 }
 
 // How far a cursor reaches on the second edge from an offset on the first.

@@ -1,9 +1,9 @@
 // Two edges: the routes between their ends, and how many events of the one are reached from those of the other.
 use crate::joining::joined_of;
-use crate::joining::lesser;
 use crate::moving::at_rest;
 use crate::moving::move_to;
 use crate::sweep::Edges;
+use model::lesser;
 ghost use mathlib.Core.Bool.{false};
 ghost use mathlib.Core.Path.{_≡_};
 ghost use Prim.Native.Nat.{ℕ, pred, _+_, _*_, _≤_, _<_};

@@ -1,9 +1,10 @@
 // Distances as codes: 0 for none, else one more than the metres.
 ghost use mathlib.Core.Path.{_≡_};
-ghost use Prim.Native.Nat.{_-_, _≤_};
+ghost use Prim.Native.Nat.{_≤_};
 ghost use Rattle.model.specs.Counting.{one-if};
 ghost use Rattle.model.specs.Distance.{code, least, plus, metres, exactly};
 ghost use Rattle.perimeter.specs.Reach.{distanceOf, byEnds, stretchOf, leftOf, farthest};
+use model::less;
 
 // The lesser of two.
 pub(crate) fn lesser(a: u64, b: u64) -> u64
@@ -36,16 +37,6 @@ pub(crate) fn by_ends(gap1: u64, gap2: u64, end1: u64, end2: u64) -> u64
     ensures { λ r. ⌜ r ≡ code (byEnds gap1 gap2 (distanceOf end1) (distanceOf end2)) ⌝ }
 {
     lesser(after(gap1, end1), after(gap2, end2))
-}
-
-// The first number less the second, 0 if that is negative.
-pub(crate) fn less(a: u64, b: u64) -> u64
-    ensures { λ r. ⌜ r ≡ a - b ⌝ }
-{
-    if a < b {
-        return 0;
-    }
-    a - b
 }
 
 // Along one edge from one offset to another; none where they lie on different edges.

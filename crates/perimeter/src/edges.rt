@@ -8,10 +8,10 @@ ghost use Rattle.perimeter.specs.Sight.{lies, met, InSight, MetCounted};
 use crate::codes::by_ends;
 use crate::codes::is_at;
 use crate::codes::left;
-use crate::codes::less;
 use crate::codes::lesser;
 use crate::codes::one;
 use crate::codes::stretch;
+use model::less;
 
 // An edge as seen from the centre: the codes of its ends' distances, its length, and whether the centre lies on it.
 pub struct Sight {

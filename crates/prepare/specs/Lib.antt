@@ -4,6 +4,7 @@ pub mod Prepared
 pub mod RunPairs
 pub mod Totals
 pub mod EndTable
+pub mod Offsets
 pub mod Laying
 pub mod Cutting
 pub mod Marking

@@ -12,7 +12,8 @@ use Rattle.model.proofs.Laws.Pieces.{part, part-length, part-at}
 use Rattle.model.proofs.Laws.Stretch.{before-edge, through-edge, having-part, rise-by-one}
 use Rattle.model.specs.Events.{having}
 use Rattle.count_augmentation.specs.Events.{LaidOut, RunEnds, EventsStored}
-use Rattle.count_augmentation.specs.Storing.{Rising, OnEdge, NumbersStored, atMost, atLeast}
+use Rattle.prepare.specs.Offsets.{Ordered, OnEdge}
+use Rattle.count_augmentation.specs.Storing.{NumbersStored, atMost, atLeast}
 use Rattle.count_augmentation.proofs.Laws.Places.{count-before, stored-first, stored-second}
 use Rattle.count_augmentation.proofs.Laws.Storage.{RunCut, put-part, put-length}
 
@@ -76,8 +77,8 @@ module _ {es xs first₀ second₀ : List ℕ} (laid : LaidOut es xs) (first-roo
   long : length (part from to xs) ≡ to - from
   long = part-length from to xs (omega (arith, run .within, laid .same-length))
 
-  rising : Rising (part from to xs)
-  rising = record { up = rise-by-one (part from to xs) (λ k h. step k (omega (arith, long))) }
+  rising : Ordered (part from to xs)
+  rising = record { in-order = rise-by-one (part from to xs) (λ k h. step k (omega (arith, long))) }
     where
       step : (k : ℕ) → suc k < to - from → getD (part from to xs) k 0 ≤ getD (part from to xs) (suc k) 0
       step k h =
@@ -104,7 +105,7 @@ module _ {es xs first₀ second₀ : List ℕ} (laid : LaidOut es xs) (first-roo
 
   up-to-last : OnEdge last (part from to xs)
   up-to-last =
-      record { on = λ k h. rising .up k (pred (to - from)) (omega (arith, long)) (omega (arith, long, run .further)) }
+      record { on = λ k h. rising .in-order k (pred (to - from)) (omega (arith, long)) (omega (arith, long, run .further)) }
 
   -- one list of numbers, whichever end it is for
   module _ (count : List ℕ → ℕ → ℕ) (near new : List ℕ) (fits : to ≤ length near) (kept : length (putMid from (to - from) near new) ≡ length near)

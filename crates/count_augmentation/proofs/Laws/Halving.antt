@@ -8,7 +8,8 @@ use native.Mathlib.Omega.{arith}
 use borrow.Author.Tests.{lt-ltb, le-ltb}
 use lib.Dec.{ltb}
 use lib.ListN.{length, getD}
-use Rattle.count_augmentation.specs.Storing.{Rising, Bracket, Parted}
+use Rattle.prepare.specs.Offsets.{Ordered}
+use Rattle.count_augmentation.specs.Storing.{Bracket, Parted}
 
 module _ (xs : List ℕ) (limit : ℕ) where
   pub bracket-begins : Bracket xs limit 0 (length xs)
@@ -20,7 +21,7 @@ module _ (xs : List ℕ) (limit : ℕ) where
       }
 
   -- the last of the first half of the places passed or not
-  pub bracket-half : Rising xs → (low left n : ℕ) → 1 ≤ left → Bracket xs limit low left → n ≡ cond (ltb (getD xs (low + (left - left / 2) - 1) 0) limit) (left - left / 2) 0 → Bracket xs limit (low + n) (left / 2)
+  pub bracket-half : Ordered xs → (low left n : ℕ) → 1 ≤ left → Bracket xs limit low left → n ≡ cond (ltb (getD xs (low + (left - left / 2) - 1) 0) limit) (left - left / 2) 0 → Bracket xs limit (low + n) (left / 2)
   bracket-half rising low left n some b e = go (decLt (getD xs (low + (left - left / 2) - 1) 0) limit)
     where
       go : Dec (getD xs (low + (left - left / 2) - 1) 0 < limit) → Bracket xs limit (low + n) (left / 2)
@@ -28,7 +29,7 @@ module _ (xs : List ℕ) (limit : ℕ) where
           let all : n ≡ left - left / 2 = e ∙ simp (lt-ltb (getD xs (low + (left - left / 2) - 1) 0) limit h) in
           record {
             within = omega (arith, b .within);
-            before = λ k l. omega (arith, rising .up k (low + (left - left / 2) - 1) (omega arith) (omega (arith, b .within)));
+            before = λ k l. omega (arith, rising .in-order k (low + (left - left / 2) - 1) (omega arith) (omega (arith, b .within)));
             after = λ k l m. b .after k (omega arith) m;
           }
       go (no h) =
@@ -36,7 +37,7 @@ module _ (xs : List ℕ) (limit : ℕ) where
           record {
             within = omega (arith, b .within);
             before = λ k l. b .before k (omega arith);
-            after = λ k l m. omega (arith, rising .up (low + (left - left / 2) - 1) k (omega arith) m);
+            after = λ k l m. omega (arith, rising .in-order (low + (left - left / 2) - 1) k (omega arith) m);
           }
 
   pub bracket-ends : (low left : ℕ) → Bracket xs limit low left → left ≡ 0 → Parted xs limit low

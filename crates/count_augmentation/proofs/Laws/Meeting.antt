@@ -16,7 +16,7 @@ use Rattle.prepare.specs.RunPairs.{edgeOf, partOf, runPairs, RunsReady}
 use Rattle.count_augmentation.specs.Pairs.{leastEntry, edgePair, reachedBy, reachedPairs, TwoRuns}
 use Rattle.count_augmentation.specs.Reach.{reached}
 use Rattle.count_augmentation.specs.Runs.{RunStored}
-use Rattle.count_augmentation.specs.Storing.{OnEdge}
+use Rattle.prepare.specs.Offsets.{OnEdge}
 use Rattle.prepare.specs.Totals.{Steps, ReadyAt, AddedAt}
 use Rattle.count_augmentation.specs.declared.pairs.EdgePair.{EdgePair}
 use Rattle.count_augmentation.proofs.Laws.Near.{reached-within}
@@ -81,12 +81,12 @@ module _ {net : Network} {table es xs bounds : List ℕ} {r q t : ℕ} (w : Runs
         let run = run-is w a ha la in
         let other = run-is w b hb lb in
         let long = sym (other .part-length) in
-        let on : OnEdge (size net j) (partOf bounds b xs) = record { on = other .on-edge } in
+        let on : OnEdge (size net j) (partOf bounds b xs) = other .on-edge in
         record {
-          on-edge = record { on = run .on-edge };
+          on-edge = run .on-edge;
           few = run .few;
           run = record {
-            rising = record { up = other .rising };
+            rising = other .rising;
             on-edge = on;
             few = other .few;
             short = other .short;

@@ -12,7 +12,7 @@ use Rattle.model.proofs.Laws.Counting.{count-at-most, sum-below-zero, sum-below
 use Rattle.model.specs.Counting.{sumBelow}
 use Rattle.count_augmentation.specs.Pairs.{lesserEntry, leastEntry, reachedBy, reachedPairs}
 use Rattle.count_augmentation.specs.Reach.{reachOf, farthest, reached}
-use Rattle.count_augmentation.specs.Storing.{OnEdge}
+use Rattle.prepare.specs.Offsets.{OnEdge}
 use Rattle.count_augmentation.specs.declared.pairs.EdgePair.{EdgePair}
 use Rattle.count_augmentation.proofs.Laws.Reach.{nothing-reached, all-from-first, all-from-second}
 

@@ -12,7 +12,8 @@ use Rattle.model.proofs.Laws.Arrival.{count-places}
 use Rattle.model.specs.Counting.{one-if, countIf}
 use Rattle.model.specs.Location.{at-first, at-second, gap}
 use Rattle.count_augmentation.specs.Augmented.{noFarther}
-use Rattle.count_augmentation.specs.Storing.{Rising, atMost, atLeast, OnEdge, NumbersStored, Parted, storedBefore, placeOf}
+use Rattle.prepare.specs.Offsets.{Ordered, OnEdge}
+use Rattle.count_augmentation.specs.Storing.{atMost, atLeast, NumbersStored, Parted, storedBefore, placeOf}
 
 -- a test that holds before a place and fails from it on counts the place
 pub count-before : (test : ℕ → Bool) (xs : List ℕ) (place : ℕ) → place ≤ length xs → ((k : ℕ) → k < place → test (getD xs k 0) ≡ true) → ((k : ℕ) → place ≤ k → k < length xs → test (getD xs k 0) ≡ false) → countIf test xs ≡ place
@@ -71,22 +72,22 @@ pub count-after : (test : ℕ → Bool) (xs : List ℕ) (place : ℕ) → place 
 count-after test xs place h off on =
     omega (arith, count-not test xs, count-before (λ x. not (test x)) xs place h (λ k l. ap not (off k l)) (λ k l m. ap not (on k l m)))
 
-module _ (xs : List ℕ) (rising : Rising xs) where
+module _ (xs : List ℕ) (rising : Ordered xs) where
   -- the offset at a place is the last of its kind: as many are at most that offset as stand up to it
   pub last-equal : (k : ℕ) → k < length xs → (suc k < length xs → getD xs k 0 < getD xs (suc k) 0) → atMost xs (getD xs k 0) ≡ suc k
   unfolding atMost
   last-equal k h further =
       count-before _ xs (suc k) h
-      (λ j l. le-leb _ _ (rising .up j k (omega arith) h))
-      (λ j l m. lt-leb (getD xs j 0) (getD xs k 0) (omega (arith, further (omega arith), rising .up (suc k) j l m)))
+      (λ j l. le-leb _ _ (rising .in-order j k (omega arith) h))
+      (λ j l m. lt-leb (getD xs j 0) (getD xs k 0) (omega (arith, further (omega arith), rising .in-order (suc k) j l m)))
 
   -- it is the first of its kind: as many are at least that offset as stand from it on
   pub first-equal : (k : ℕ) → k < length xs → (0 < k → getD xs (pred k) 0 < getD xs k 0) → atLeast xs (getD xs k 0) ≡ length xs - k
   unfolding atLeast
   first-equal k h further =
       count-after _ xs k (omega arith)
-      (λ j l. lt-leb (getD xs k 0) (getD xs j 0) (omega (arith, further (omega arith), rising .up j (pred k) (omega arith) (omega arith))))
-      (λ j l m. le-leb _ _ (rising .up k j l m))
+      (λ j l. lt-leb (getD xs k 0) (getD xs j 0) (omega (arith, further (omega arith), rising .in-order j (pred k) (omega arith) (omega arith))))
+      (λ j l m. le-leb _ _ (rising .in-order k j l m))
 
   module _ (limit place : ℕ) (parted : Parted xs limit place) where
     -- what is stored with the last offset below a limit is how many are below it
@@ -96,7 +97,7 @@ module _ (xs : List ℕ) (rising : Rising xs) where
         let within = parted .within in
         let last = parted .before (pred place) (omega arith) in
         count-before _ xs place within
-        (λ k l. le-leb _ _ (rising .up k (pred place) (omega arith) (omega arith)))
+        (λ k l. le-leb _ _ (rising .in-order k (pred place) (omega arith) (omega arith)))
         (λ k l m. lt-leb (getD xs k 0) (getD xs (pred place) 0) (omega (arith, parted .after k l m)))
         ∙ sym (count-before _ xs place within (λ k l. lt-ltb _ _ (parted .before k l)) (λ k l m. le-ltb _ _ (parted .after k l m)))
 
@@ -111,7 +112,7 @@ module _ (xs : List ℕ) (rising : Rising xs) where
         let first = parted .after place (omega arith) h in
         count-after _ xs place within
         (λ k l. lt-leb (getD xs place 0) (getD xs k 0) (omega (arith, parted .before k l)))
-        (λ k l m. le-leb _ _ (rising .up place k l m))
+        (λ k l m. le-leb _ _ (rising .in-order place k l m))
         ∙ sym (count-after _ xs place within (λ k l. lt-leb _ _ (parted .before k l)) (λ k l m. le-leb _ _ (parted .after k l m)))
 
     pub none-from : place ≡ length xs → countIf (λ y. leb limit y) xs ≡ 0
@@ -150,7 +151,7 @@ module _ (p : ℕ) (xs near-first near-second : List ℕ) (on-edge : OnEdge p xs
   stored-second k h = stored .second-at k h ∙ no-farther-second p xs on-edge _ (on-edge .on k h)
 
   -- read from right numbers, they are how many offsets are below a limit and how many are not
-  module _ (rising : Rising xs) (limit place : ℕ) (parted : Parted xs limit place) where
+  module _ (rising : Ordered xs) (limit place : ℕ) (parted : Parted xs limit place) where
     pub read-below : storedBefore near-first (placeOf xs limit) ≡ countIf (λ y. ltb y limit) xs
     read-below = rw (place-is xs limit place parted) (go place refl)
       where

@@ -11,10 +11,11 @@ use lib.ListN.{length, getD}
 use Rattle.model.proofs.Laws.Arrival.{in-window, no-place}
 use Rattle.model.proofs.Laws.Counting.{count-mono, count-at-most}
 use Rattle.model.proofs.Laws.Cover.{cover-list, first-places, last-places}
-use Rattle.model.specs.Counting.{countIf}
+use Rattle.model.specs.Counting.{countIf, covered}
 use Rattle.model.specs.Distance.{difference}
-use Rattle.count_augmentation.specs.Reach.{isReached, reached, together, Run}
-use Rattle.count_augmentation.specs.Storing.{Rising, OnEdge, Parted, storedBefore, placeOf}
+use Rattle.count_augmentation.specs.Reach.{isReached, reached, Run}
+use Rattle.prepare.specs.Offsets.{Ordered, OnEdge}
+use Rattle.count_augmentation.specs.Storing.{Parted, storedBefore, placeOf}
 use Rattle.count_augmentation.proofs.Laws.Places.{count-before, count-not, read-below, read-from}
 
 -- how many offsets are below a limit, and how many are not
@@ -25,16 +26,16 @@ abbrev pub from-limit : List ℕ → ℕ → ℕ
 from-limit ys limit = countIf (λ y. leb limit y) ys
 
 -- what is below a limit stands at the first places, what is not at the last
-module _ (ys : List ℕ) (rising : Rising ys) (limit : ℕ) where
+module _ (ys : List ℕ) (rising : Ordered ys) (limit : ℕ) where
   pub below-first : (k : ℕ) → k < length ys → ltb (getD ys k 0) limit ≡ ltb k (below-limit ys limit)
   below-first =
       first-places (λ y. ltb y limit) ys
-      (λ k j l m e. lt-ltb (getD ys k 0) limit (omega (arith, ltb-true (getD ys j 0) limit e, rising .up k j l m)))
+      (λ k j l m e. lt-ltb (getD ys k 0) limit (omega (arith, ltb-true (getD ys j 0) limit e, rising .in-order k j l m)))
 
   pub from-last : (k : ℕ) → k < length ys → leb limit (getD ys k 0) ≡ leb (length ys - from-limit ys limit) k
   from-last =
       last-places (λ y. leb limit y) ys
-      (λ k j l m e. le-leb limit (getD ys j 0) (omega (arith, leb-true limit (getD ys k 0) e, rising .up k j l m)))
+      (λ k j l m e. le-leb limit (getD ys j 0) (omega (arith, leb-true limit (getD ys k 0) e, rising .in-order k j l m)))
 
 -- within reach of the second end, read as a limit on the offset
 second-limit : (q s y : ℕ) → y ≤ q → ltb (q - y) s ≡ leb (suc q - s) y
@@ -51,8 +52,7 @@ max-self : (m : ℕ) → max m m ≡ m
 max-self m = omega arith
 
 -- the first m and the last n of l places, as a sum
-summed : (l m n : ℕ) → m ≤ l → n ≤ l → min (m + n) l ≡ together l m n m m
-unfolding together
+summed : (l m n : ℕ) → m ≤ l → n ≤ l → min (m + n) l ≡ covered l m n m m
 summed l m n h k =
     rw (no-gap m (l - n), max-self m) (omega arith)
 
@@ -83,14 +83,14 @@ module _ (q : ℕ) (ys : List ℕ) (on-edge : OnEdge q ys) (f s : ℕ) (own : Bo
       (λ k l. rw (lt-ltb (q - getD ys k 0) s (omega arith)) (second-holds (ltb (getD ys k 0) f) _))
       (λ k l m. absurd (omega arith)))
 
-module _ (q : ℕ) (ys : List ℕ) (rising : Rising ys) (on-edge : OnEdge q ys) (f s t x : ℕ) where
+module _ (q : ℕ) (ys : List ℕ) (rising : Ordered ys) (on-edge : OnEdge q ys) (f s t x : ℕ) where
   -- the first and the last places
   second-last : (k : ℕ) → k < length ys → ltb (q - getD ys k 0) s ≡ leb (length ys - from-limit ys (suc q - s)) k
   second-last k h = second-limit q s (getD ys k 0) (on-edge .on k h) ∙ from-last ys rising (suc q - s) k h
 
   -- from the two ends
-  reached-by-ends : together (length ys) (below-limit ys f) (from-limit ys (suc q - s)) (below-limit ys f) (below-limit ys f) ≡ reached q f s false t x ys
-  unfolding reached isReached together
+  reached-by-ends : covered (length ys) (below-limit ys f) (from-limit ys (suc q - s)) (below-limit ys f) (below-limit ys f) ≡ reached q f s false t x ys
+  unfolding reached isReached
   reached-by-ends =
       sym (cover-list ys (λ y. ltb y f) (λ y. ltb (q - y) s) (λ y. false) (below-limit ys f) (from-limit ys (suc q - s)) (below-limit ys f) (below-limit ys f)
       (omega arith) (below-first ys rising f) second-last (λ k h. no-place (below-limit ys f) k))
@@ -99,7 +99,7 @@ module _ (q : ℕ) (ys : List ℕ) (rising : Rising ys) (on-edge : OnEdge q ys) 
   pub ends-summed : (m n : ℕ) → m ≡ below-limit ys f → n ≡ from-limit ys (suc q - s) → min (m + n) (length ys) ≡ reached q f s false t x ys
   ends-summed m n first last =
       summed (length ys) m n (rw first (count-at-most _ ys)) (rw last (count-at-most _ ys))
-      ∙ ap₂ (λ (m n : ℕ). together (length ys) m n m m) first last ∙ reached-by-ends
+      ∙ ap₂ (λ (m n : ℕ). covered (length ys) m n m m) first last ∙ reached-by-ends
 
   -- the window does not end before it begins
   window-opens : length ys - from-limit ys (x - t) ≤ below-limit ys (x + t + 1)
@@ -111,8 +111,8 @@ module _ (q : ℕ) (ys : List ℕ) (rising : Rising ys) (on-edge : OnEdge q ys) 
       )
 
   -- from the two ends and in the window
-  pub reached-around : together (length ys) (below-limit ys f) (from-limit ys (suc q - s)) (length ys - from-limit ys (x - t)) (below-limit ys (x + t + 1)) ≡ reached q f s true t x ys
-  unfolding reached isReached together
+  pub reached-around : covered (length ys) (below-limit ys f) (from-limit ys (suc q - s)) (length ys - from-limit ys (x - t)) (below-limit ys (x + t + 1)) ≡ reached q f s true t x ys
+  unfolding reached isReached
   reached-around =
       sym (cover-list ys (λ y. ltb y f) (λ y. ltb (q - y) s) (λ y. leb (difference x y) t) (below-limit ys f) (from-limit ys (suc q - s)) (length ys - from-limit ys (x - t)) (below-limit ys (x + t + 1))
       window-opens (below-first ys rising f) second-last
@@ -120,10 +120,10 @@ module _ (q : ℕ) (ys : List ℕ) (rising : Rising ys) (on-edge : OnEdge q ys) 
 
 -- what the look-ups ask of a run, and what they read of its stored numbers
 module _ (q : ℕ) (ys near-first near-second : List ℕ) (run : Run q ys near-first near-second) where
-  pub look-first : Rising ys × (length near-first ≡ length ys)
+  pub look-first : Ordered ys × (length near-first ≡ length ys)
   look-first = (run .rising, run .first-length)
 
-  pub look-second : Rising ys × (length near-second ≡ length ys)
+  pub look-second : Ordered ys × (length near-second ≡ length ys)
   look-second = (run .rising, run .second-length)
 
   parted : (limit : ℕ) → Parted ys limit (below-limit ys limit)

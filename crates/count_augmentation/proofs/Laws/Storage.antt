@@ -14,7 +14,8 @@ use Rattle.model.specs.Limits.{maxEvents}
 use Rattle.prepare.proofs.Laws.RunEvents.{part-front}
 use Rattle.prepare.specs.RunPairs.{partOf}
 use Rattle.count_augmentation.specs.Runs.{RunStorable, RunsStorable, RunStored, RunsStored}
-use Rattle.count_augmentation.specs.Storing.{Rising, OnEdge, Storable, NumbersStored}
+use Rattle.prepare.specs.Offsets.{Ordered, OnEdge}
+use Rattle.count_augmentation.specs.Storing.{Storable, NumbersStored}
 
 -- a part that has been put back
 pub put-part : (a k : ℕ) (l part : List ℕ) → a ≤ length l → length part ≡ k → take k (drop a (putMid a k l part)) ≡ part
@@ -44,7 +45,7 @@ pub record RunCut (xs first second : List ℕ) (from to : ℕ) : Type 0 where
   pub in-first : to ≤ length first
   pub in-second : to ≤ length second
   pub few : to ≤ maxEvents
-  pub rising : Rising (take (to - from) (drop from xs))
+  pub rising : Ordered (take (to - from) (drop from xs))
 
 pub none-stored : (xs bounds first second : List ℕ) (r : ℕ) → StoredTo xs bounds first second r r first second
 none-stored xs bounds first second r =

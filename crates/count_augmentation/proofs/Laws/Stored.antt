@@ -25,7 +25,7 @@ runs-storable w near-first near-second first-room second-room =
             in-first = omega arith;
             in-second = omega arith;
             few = omega arith;
-            rising = record { up = run-is w k h l .rising };
+            rising = run-is w k h l .rising;
           };
     }
 

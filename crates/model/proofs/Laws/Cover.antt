@@ -11,11 +11,7 @@ use borrow.Author.Tests.{lt-ltb, le-ltb, le-leb, lt-leb}
 use lib.Dec.{leb, ltb}
 use lib.ListN.{length, getD}
 use Rattle.model.proofs.Laws.Counting.{count-below-cong, count-below-list, count-at-most}
-use Rattle.model.specs.Counting.{sumBelow, countBelow, countIf, one-if}
-
--- of n places the first p, the last q, and those from below on up to before upto
-abbrev pub covered : ℕ → ℕ → ℕ → ℕ → ℕ → ℕ
-covered n p q below upto = n - (min below (n - q) - p) - ((n - q) - max upto p)
+use Rattle.model.specs.Counting.{sumBelow, countBelow, countIf, one-if, covered}
 
 abbrev pub inCover : ℕ → ℕ → ℕ → ℕ → ℕ → ℕ → Bool
 inCover n p q below upto k = (ltb k p || leb (n - q) k) || (leb below k && ltb k upto)

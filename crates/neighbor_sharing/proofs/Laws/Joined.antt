@@ -8,7 +8,7 @@ use native.Mathlib.Omega.{arith}
 use borrow.Author.Tests.{leb-true, le-leb, lt-leb, ltb-true, lt-ltb, le-ltb}
 use lib.Dec.{leb, ltb}
 use lib.ListN.{length, getD}
-use Rattle.model.specs.Counting.{countIf}
+use Rattle.model.specs.Counting.{countIf, covered}
 use Rattle.model.specs.Distance.{Distance, difference}
 use Rattle.model.specs.Location.{Side, at-first, at-second, gap, reaches}
 use Rattle.model.proofs.Laws.Arrival.{below-max, from-max, by-arrival, in-window, no-place, not-below}
@@ -18,10 +18,10 @@ use Rattle.model.proofs.Laws.Routes.{some-route}
 use Rattle.neighbor_sharing.proofs.Laws.Nearest.{Down, first-reached, second-reached}
 use Rattle.neighbor_sharing.proofs.Laws.Positions.{reaches-less}
 use Rattle.neighbor_sharing.specs.Cursors.{position, below, upTo}
-use Rattle.neighbor_sharing.specs.Joined.{joined, joinedOf, joinedFrom, sweptSum, reachedBy, isReached, reachedPairs}
+use Rattle.neighbor_sharing.specs.Joined.{joinedOf, joinedFrom, sweptSum, reachedBy, isReached, reachedPairs}
 use Rattle.neighbor_sharing.specs.Six.{distanceBetween}
 use Rattle.neighbor_sharing.specs.Stands.{routeStand, standsAt}
-use Rattle.neighbor_sharing.specs.Sweeping.{Ordered}
+use Rattle.prepare.specs.Offsets.{Ordered}
 use Rattle.neighbor_sharing.specs.declared.sweep.Edges.{Edges}
 
 module _ (t p x q : ℕ) (d : Side → Side → Distance) (ys : List ℕ) (o : Ordered ys) where
@@ -96,8 +96,7 @@ module _ (t p x q : ℕ) (d : Side → Side → Distance) (ys : List ℕ) (o : O
   around false k h = no-place 0 k
   around true k h = in-window x (getD ys k 0) t ∙ ap₂ _&&_ (window-from k h) (window-to k h)
 
-  reached-joined : (same : Bool) → countIf (λ y. some-route t d p x q y || (same && leb (difference x y) t)) ys ≡ joined (length ys) (at at-first at-first) (at at-first at-second) (at at-second at-first) (at at-second at-second) (cond same (below t ys x) 0) (cond same (upTo t ys x) 0)
-  unfolding joined
+  reached-joined : (same : Bool) → countIf (λ y. some-route t d p x q y || (same && leb (difference x y) t)) ys ≡ covered (length ys) (max (at at-first at-first) (at at-second at-first)) (max (at at-first at-second) (at at-second at-second)) (cond same (below t ys x) 0) (cond same (upTo t ys x) 0)
   reached-joined same =
       count-cong _ _ ys (λ y. sym (by-arrival (by at-first at-first y) (by at-first at-second y) (by at-second at-first y) (by at-second at-second y) (same && leb (difference x y) t)))
       ∙ cover-list ys (arrives at-first) (arrives at-second) (λ y. same && leb (difference x y) t) (max (at at-first at-first) (at at-second at-first)) (max (at at-first at-second) (at at-second at-second)) (cond same (below t ys x) 0) (cond same (upTo t ys x) 0) (opens same) first-arrives last-arrives (around same)
@@ -113,9 +112,5 @@ unfolding sweptSum reachedPairs
 sum-reached t w xs ys o = sum-below-cong (length xs) _ _ (λ i h. joined-reached t w ys o (getD xs i 0))
 
 -- no more are reached than there are
-pub joined-few : (n ff fs sf ss low high : ℕ) → joined n ff fs sf ss low high ≤ n
-unfolding joined
-joined-few n ff fs sf ss low high = go _ _
-  where
-    go : (a b : ℕ) → n - a - b ≤ n
-    go a b = omega arith
+pub left-few : (n a b : ℕ) → n - a - b ≤ n
+left-few n a b = omega arith

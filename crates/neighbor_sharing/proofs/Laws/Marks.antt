@@ -76,4 +76,4 @@ route-part t w first1 first2 xs ys from (suc n) c l r l′ told made laid done =
     found = rw (sym told) refl
 
     stands : (k : ℕ) → k < length xs → standing (routeCursor t (w .long1) first1 (suc n) first2) (w .long2) ys (getD xs k 0) ≡ at (metres n) (getD xs k 0)
-    stands k h = route-standing t (w .long1) (w .long2) n first1 first2 ys (getD xs k 0) (laid .on-edge k h)
+    stands k h = route-standing t (w .long1) (w .long2) n first1 first2 ys (getD xs k 0) (laid .on-edge .on k h)

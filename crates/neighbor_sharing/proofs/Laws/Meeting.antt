@@ -41,7 +41,7 @@ module _ {net : Network} {table es xs bounds : List ℕ} {r q t : ℕ} (w : Runs
   pub run-laid : (k : ℕ) → r ≤ k → k < q → Laid (size net (pred (edgeOf es bounds k))) (partOf bounds k xs)
   run-laid k h l =
       let run = run-is w k h l in
-      record { ordered = record { in-order = run .rising }; on-edge = run .on-edge; few = run .few }
+      record { ordered = run .rising; on-edge = run .on-edge; few = run .few }
 
   module _ (a b : ℕ) (ha : r ≤ a) (la : a < q) (hb : r ≤ b) (lb : b < q) where
     abbrev i : ℕ

@@ -12,7 +12,8 @@ use Rattle.model.specs.Counting.{countIf}
 use Rattle.model.specs.Location.{at-first, at-second, gap}
 use Rattle.model.proofs.Laws.Counting.{count-at-most}
 use Rattle.model.proofs.Laws.Cover.{first-places, last-places}
-use Rattle.neighbor_sharing.specs.Sweeping.{Ordered, reached}
+use Rattle.prepare.specs.Offsets.{Ordered}
+use Rattle.neighbor_sharing.specs.Sweeping.{reached}
 
 -- a test of gaps that a lesser gap passes too
 abbrev pub Down : (ℕ → Bool) → Type 0

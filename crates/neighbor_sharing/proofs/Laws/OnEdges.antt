@@ -14,7 +14,7 @@ use Rattle.model.specs.Events.{event, events, having, before, setSize, InOrder}
 use Rattle.model.specs.Network.{Network, size}
 use Rattle.model.specs.PairCount.{eventAt}
 use Rattle.neighbor_sharing.specs.Six.{Laid}
-use Rattle.neighbor_sharing.specs.Sweeping.{Ordered}
+use Rattle.prepare.specs.Offsets.{Ordered}
 use Rattle.prepare.proofs.Laws.Groups.{having-length}
 use Rattle.prepare.proofs.Laws.InRuns.{in-order-at, same-edge}
 
@@ -86,6 +86,6 @@ laid-on-edge net es xs e edge a =
     let are = a .are-events in
     record {
       ordered = on-edge-ordered es xs (a .in-order) e;
-      on-edge = having-all (λ y. y ≤ size net (pred e)) e es xs (λ k m n same. rw same at (are .event-at k m .on-edge));
+      on-edge = record { on = having-all (λ y. y ≤ size net (pred e)) e es xs (λ k m n same. rw same at (are .event-at k m .on-edge)) };
       few = omega (arith, having-length e es xs (are .same-length), few-on-edge es e, are .few);
     }

@@ -8,7 +8,8 @@ use lib.ListN.{length, getD}
 use Rattle.model.specs.Distance.{difference}
 use Rattle.model.specs.Location.{Side, at-first, at-second}
 use Rattle.neighbor_sharing.specs.Cursors.{rest, moves, OneWay, fallen, falls, risen, rises}
-use Rattle.neighbor_sharing.specs.Sweeping.{Ordered, Passes}
+use Rattle.prepare.specs.Offsets.{Ordered}
+use Rattle.neighbor_sharing.specs.Sweeping.{Passes}
 
 pub passes-self : (s : Side) (a : ℕ) → Passes s a a
 passes-self at-first a = omega arith

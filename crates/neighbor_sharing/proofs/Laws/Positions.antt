@@ -11,7 +11,8 @@ use Rattle.model.specs.Location.{Side, at-first, at-second, gap, reaches}
 use Rattle.model.proofs.Laws.Counting.{count-mono, count-at-most}
 use Rattle.neighbor_sharing.proofs.Laws.OneWay.{one-way-of, moves-few, last-in, rest-in, from-rest}
 use Rattle.neighbor_sharing.specs.Cursors.{position, positions, below, upTo, rest, moves, OneWay, Rising}
-use Rattle.neighbor_sharing.specs.Sweeping.{Ordered, Passes}
+use Rattle.prepare.specs.Offsets.{Ordered}
+use Rattle.neighbor_sharing.specs.Sweeping.{Passes}
 
 -- lesser gaps are reached too
 pub reaches-less : (t a a′ : ℕ) (d : Distance) (b b′ : ℕ) → a ≤ a′ → b ≤ b′ → reaches t a′ d b′ ≡ true → reaches t a d b ≡ true

@@ -16,7 +16,8 @@ use Rattle.neighbor_sharing.specs.Cursors.{position, below, upTo, rest}
 use Rattle.neighbor_sharing.specs.Joined.{joinedOf, joinedFrom, sweptSum}
 use Rattle.neighbor_sharing.specs.Six.{decoded, codeBetween, distanceBetween, EdgesLaid}
 use Rattle.neighbor_sharing.specs.Stands.{routeStand, standsAt, standsAtRest, standOf, RouteMovable, StandsMovable}
-use Rattle.neighbor_sharing.specs.Sweeping.{sideOf, standing, routeOrNone, belowCursor, upToCursor, Ordered, Small, Movable}
+use Rattle.prepare.specs.Offsets.{Ordered}
+use Rattle.neighbor_sharing.specs.Sweeping.{sideOf, standing, routeOrNone, belowCursor, upToCursor, Small, Movable}
 use Rattle.neighbor_sharing.specs.declared.cursor.Cursor.{Cursor}
 use Rattle.neighbor_sharing.specs.declared.moving.Stands.{Stands}
 use Rattle.neighbor_sharing.specs.declared.sweep.Edges.{Edges}
@@ -124,7 +125,7 @@ module _ (t : ℕ) (w : Edges) (xs ys : List ℕ) where
   none-counted laid e =
       record {
         i-in = omega arith;
-        can = λ j h l. rw e (rest-can t w ys (laid .second-laid .ordered) (getD xs j 0) (laid .first-laid .on-edge j l));
+        can = λ j h l. rw e (rest-can t w ys (laid .second-laid .ordered) (getD xs j 0) (laid .first-laid .on-edge .on j l));
         total-is = refl;
         total-few = omega arith;
       }
@@ -135,7 +136,7 @@ module _ (t : ℕ) (w : Edges) (xs ys : List ℕ) where
       let here : r ≡ joinedOf (length ys) (standsAt t w ys (getD xs i 0)) = found ∙ ap (joinedOf (length ys)) moved in
       record {
         i-in = omega arith;
-        can = λ j l k. rw moved (later-can t w ys (laid .second-laid .ordered) (getD xs i 0) (getD xs j 0) (laid .first-laid .ordered .in-order i j (omega arith) k) (laid .first-laid .on-edge j k));
+        can = λ j l k. rw moved (later-can t w ys (laid .second-laid .ordered) (getD xs i 0) (getD xs j 0) (laid .first-laid .ordered .in-order i j (omega arith) k) (laid .first-laid .on-edge .on j k));
         total-is = omega (arith, so-far .total-is, sum-next (λ k. joinedFrom t w ys (getD xs k 0)) i);
         total-few = omega (arith, so-far .total-few, laid .second-laid .few);
       }

@@ -17,6 +17,7 @@ use Rattle.model.specs.Location.{Side, endNode}
 use Rattle.model.specs.Network.{Network, edges, size}
 use Rattle.model.specs.NodeDistance.{boundedDistance}
 use Rattle.prepare.specs.EndTable.{EndTable}
+use Rattle.prepare.specs.Offsets.{Ordered, OnEdge}
 use Rattle.prepare.specs.Prepared.{entry}
 use Rattle.prepare.specs.RunPairs.{edgeOf, partOf, runPairs, earlierPairs, allPairs, RunsReady}
 use Rattle.prepare.proofs.Laws.RunSums.{sum-below-most}
@@ -29,8 +30,8 @@ pub record RunIs (net : Network) (es xs bounds : List ℕ) (k : ℕ) : Type 0 wh
   pub edge-from : 1 ≤ edgeOf es bounds k
   pub edge-to : edgeOf es bounds k ≤ edges net
   pub short : size net (pred (edgeOf es bounds k)) ≤ maxLength
-  pub on-edge : (i : ℕ) → i < length (partOf bounds k xs) → getD (partOf bounds k xs) i 0 ≤ size net (pred (edgeOf es bounds k))
-  pub rising : (i j : ℕ) → i ≤ j → j < length (partOf bounds k xs) → getD (partOf bounds k xs) i 0 ≤ getD (partOf bounds k xs) j 0
+  pub on-edge : OnEdge (size net (pred (edgeOf es bounds k))) (partOf bounds k xs)
+  pub rising : Ordered (partOf bounds k xs)
   pub is-event : (i : ℕ) → i < length (partOf bounds k xs) → IsEvent net (event (edgeOf es bounds k) (getD (partOf bounds k xs) i 0))
 
 -- the places and the edges that are read for runs a and b
@@ -151,10 +152,13 @@ module _ {net : Network} {table es xs bounds : List ℕ} {r q t : ℕ} (w : Runs
         edge-from = first .from-one;
         edge-to = first .to-edges;
         short = w .length-to (pred (edgeOf es bounds k)) (omega (arith, first .from-one, first .to-edges));
-        on-edge = λ i m. run-event k i h l (omega arith) .on-edge;
-        rising = λ i j m n.
-            rw (part-of-at bounds xs k i (omega arith), part-of-at bounds xs k j (omega arith))
-            (w .rising k (getD bounds k 0 + i) (getD bounds k 0 + j) h l (omega arith) (omega arith) (omega arith));
+        on-edge = record { on = λ i m. run-event k i h l (omega arith) .on-edge };
+        rising =
+            record {
+              in-order = λ i j m n.
+                  rw (part-of-at bounds xs k i (omega arith), part-of-at bounds xs k j (omega arith))
+                  (w .rising k (getD bounds k 0 + i) (getD bounds k 0 + j) h l (omega arith) (omega arith) (omega arith));
+            };
         is-event = λ i m. run-event k i h l (omega arith);
       }
 

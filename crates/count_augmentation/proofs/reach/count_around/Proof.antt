@@ -3,7 +3,7 @@ use mathlib.Core.Path.{_≡_, ap, ap₂, _∙_}
 use Prim.Native.Nat.{ℕ, suc, _+_, _-_}
 use native.Mathlib.Numerals.{add-one}
 use lib.ListN.{length}
-use Rattle.count_augmentation.specs.Reach.{together}
+use Rattle.model.specs.Counting.{covered}
 use Rattle.count_augmentation.proofs.Laws.Reach.{below-limit, from-limit, reached-around, look-first, look-second, below-read, from-read}
 use borrow.Author.Needs.{needs}
 use Rattle.count_augmentation.proofs.reach.count_around.Statement.{statement}
@@ -51,8 +51,8 @@ cast-upto c = search needs
 less-requires-3 : tie.Need-less-requires-3
 less-requires-3 c κs = search needs
 
-union-requires : tie.Need-union-requires
-union-requires c κs = search needs
+covered-requires : tie.Need-covered-requires
+covered-requires c κs = search needs
 
 returns : tie.Need-returns
 returns c =
@@ -70,9 +70,9 @@ returns c =
     let from-window : c .before .before .before .count-from2 .result ≡ from-limit ys (x - t) = c .before .before .before .count-from2 .ensures ∙ from-read q ys _ _ (start .pre) _ ∙ ap (from-limit ys) (c .before .before .before .before .less2 .ensures) in
     let below : c .before .less3 .result ≡ length ys - from-limit ys (x - t) = c .before .less3 .ensures ∙ ap (λ (n : ℕ). length ys - n) from-window in
     let upto : c .before .before .count-below2 .result ≡ below-limit ys (x + t + 1) = c .before .before .count-below2 .ensures ∙ below-read q ys _ _ (start .pre) (x + t + 1) in
-    c .union .ensures
-    ∙ ap₂ (λ (m n : ℕ). together (length ys) m n (c .before .less3 .result) (c .before .before .count-below2 .result)) first last
-    ∙ ap₂ (λ (m n : ℕ). together (length ys) (below-limit ys f) (from-limit ys (suc q - s)) m n) below upto
+    c .covered .ensures
+    ∙ ap₂ (λ (m n : ℕ). covered (length ys) m n (c .before .less3 .result) (c .before .before .count-below2 .result)) first last
+    ∙ ap₂ (λ (m n : ℕ). covered (length ys) (below-limit ys f) (from-limit ys (suc q - s)) m n) below upto
     ∙ reached-around q ys (start .pre .rising) (start .pre .on-edge) f s t x
 
 pub count-around-spec : {M : Type 1} → statement M
@@ -93,5 +93,5 @@ count-around-spec =
     count-below-requires-2
     cast-upto
     less-requires-3
-    union-requires
+    covered-requires
     returns)

@@ -49,7 +49,7 @@ returns-3 c =
     let xs = start .args .offsets .now in
     let k = start .args .k in
     let different : getD xs (pred k) 0 ≡ getD xs k 0 → ⊥ = λ e. c .if2 .left (ap (λ (j : ℕ). getD xs j 0) {x = k - 1} {y = pred k} (omega arith) ∙ e) in
-    sym (first-equal xs (start .pre .0 .0) k (start .pre .0 .1) (λ more. omega (arith, start .pre .0 .0 .up (pred k) k (omega arith) (start .pre .0 .1), different)))
+    sym (first-equal xs (start .pre .0 .0) k (start .pre .0 .1) (λ more. omega (arith, start .pre .0 .0 .in-order (pred k) k (omega arith) (start .pre .0 .1), different)))
 
 pub next-at-least-spec : {M : Type 1} → statement M
 next-at-least-spec =

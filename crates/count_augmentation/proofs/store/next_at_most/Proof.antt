@@ -47,7 +47,7 @@ returns-3 c =
     let xs = start .args .offsets .now in
     let k = start .args .k in
     let different : getD xs k 0 ≡ getD xs (suc k) 0 → ⊥ = λ e. c .if2 .left (ap (λ (j : ℕ). getD xs j 0) (add-one k) ∙ sym e) in
-    add-one _ ∙ sym (last-equal xs (start .pre .0 .0) k (start .pre .0 .1) (λ more. omega (arith, start .pre .0 .0 .up k (suc k) (omega arith) more, different)))
+    add-one _ ∙ sym (last-equal xs (start .pre .0 .0) k (start .pre .0 .1) (λ more. omega (arith, start .pre .0 .0 .in-order k (suc k) (omega arith) more, different)))
 
 pub next-at-most-spec : {M : Type 1} → statement M
 next-at-most-spec =

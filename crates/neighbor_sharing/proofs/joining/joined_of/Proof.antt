@@ -1,16 +1,23 @@
--- The six positions are those where the cursors stand.
+-- The routes that arrive at one end reach what the farther of the two does.
 use Rattle.neighbor_sharing.specs.Joined.{joinedOf}
-use Rattle.neighbor_sharing.proofs.Laws.Joined.{joined-few}
+use Rattle.neighbor_sharing.proofs.Laws.Joined.{left-few}
 use borrow.Author.Needs.{needs}
 use Rattle.neighbor_sharing.proofs.joining.joined_of.Statement.{statement}
 use Rattle.neighbor_sharing.proofs.joining.joined_of.Tie as tie
 
-joined-requires : tie.Need-joined-requires
-joined-requires c κs = search needs
+greater-requires : tie.Need-greater-requires
+greater-requires c κs = search needs
+
+greater-requires-2 : tie.Need-greater-requires-2
+greater-requires-2 c κs = search needs
+
+covered-requires : tie.Need-covered-requires
+covered-requires c κs = search needs
 
 returns : tie.Need-returns
 unfolding joinedOf
-returns c = (c .joined .ensures, rw (c .joined .ensures) (joined-few (c .before .args .places) _ _ _ _ _ _))
+returns c =
+    (cc, rw (c .covered .ensures) (left-few _ _ _))
 
 pub joined-of-spec : {M : Type 1} → statement M
-joined-of-spec = tie.close (tie.spec joined-requires returns)
+joined-of-spec = tie.close (tie.spec greater-requires greater-requires-2 covered-requires returns)

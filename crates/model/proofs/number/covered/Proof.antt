@@ -1,8 +1,7 @@
 -- The contract's sum, step by step.
-use Rattle.count_augmentation.specs.Reach.{together}
 use borrow.Author.Needs.{needs}
-use Rattle.count_augmentation.proofs.reach.union.Statement.{statement}
-use Rattle.count_augmentation.proofs.reach.union.Tie as tie
+use Rattle.model.proofs.number.covered.Statement.{statement}
+use Rattle.model.proofs.number.covered.Tie as tie
 
 less-requires : tie.Need-less-requires
 less-requires c κs = search needs
@@ -26,11 +25,10 @@ less-requires-5 : tie.Need-less-requires-5
 less-requires-5 c κs = search needs
 
 returns : tie.Need-returns
-unfolding together
 returns c = cc
 
-pub union-spec : {M : Type 1} → statement M
-union-spec =
+pub covered-spec : {M : Type 1} → statement M
+covered-spec =
     tie.close
     (tie.spec
     less-requires
