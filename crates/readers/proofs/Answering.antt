@@ -2,11 +2,11 @@
 use mathlib.Core.List.{List, [], _++_}
 use mathlib.Core.Path.{_≡_, refl, sym, ap, _∙_}
 use Prim.Native.Nat.{ℕ, _≤_}
-use borrow.Author.Tests.{leb-true}
 use lib.ListN.{length, drop}
-use Rattle.model.proofs.Laws.Refusal.{both-accepted, unless-accepted}
+use Rattle.model.proofs.Laws.CheckParts.{room-accepted}
+use Rattle.model.proofs.Laws.Refusal.{both-accepted}
 use Rattle.model.specs.Answer.{written}
-use Rattle.model.specs.Refusal.{orElse, listsDiffer}
+use Rattle.model.specs.Refusal.{orElse}
 use Rattle.model.specs.declared.check.Check.{Check}
 use Rattle.model.specs.declared.check.Check.the-variants.{Accepted, Refused}
 use Rattle.model.specs.Checks.{roomCheck}
@@ -40,11 +40,6 @@ module _ {check : Check} where
   unfolding listAnswer
   answer-read n e = rw e
 
--- a list that is accepted has room
-pub has-room : (n : ℕ) (answers : List ℕ) → roomCheck n answers ≡ Accepted → n ≤ length answers
-unfolding roomCheck
-has-room n answers e = leb-true _ _ (unless-accepted _ listsDiffer 0 e)
-
 pub record Rooms (n : ℕ) (first second third : List ℕ) : Type 0 where
   pub one : n ≤ length first
   pub two : n ≤ length second
@@ -55,7 +50,7 @@ unfolding roomsCheck
 have-room n first second third e =
     let both = both-accepted (roomCheck n first) _ e in
     let rest = both-accepted (roomCheck n second) _ (both .1) in
-    record { one = has-room n first (both .0); two = has-room n second (rest .0); three = has-room n third (rest .1) }
+    record { one = room-accepted n first (both .0); two = room-accepted n second (rest .0); three = room-accepted n third (rest .1) }
 
 -- One answer list.
 module _ (xs old : List ℕ) where

@@ -3,20 +3,10 @@ ghost use mathlib.Core.List.{_++_};
 ghost use mathlib.Core.Path.{_≡_};
 ghost use Prim.Native.Nat.{_≤_};
 ghost use lib.ListN.{length, drop};
-ghost use Rattle.model.specs.Checks.{roomCheck};
 ghost use Rattle.readers.specs.Steps.{roomsCheck, Answered, AnsweredThree};
 use crate::answers::ReadList;
 use model::Check;
-
-// 2: the answer list is too short for so many entries.
-pub(crate) fn check_room(count: usize, answers: &[u32]) -> Check
-    ensures { λ r. ⌜ r ≡ roomCheck count (now (answers .entry)) ⌝ }
-{
-    if answers.len() < count {
-        return Check::Refused(Check::LISTS_DIFFER, 0);
-    }
-    Check::Accepted
-}
+use validate::check_room;
 
 // The values come to the front of the answer list, the surplus entries stay.
 pub(crate) fn fill(values: &[u32], answers: &mut [u32])

@@ -1,19 +1,9 @@
 // The checks in front of the table, in document 01's order.
 ghost use mathlib.Core.Path.{_≡_};
-ghost use Rattle.model.specs.Checks.{roomCheck};
 ghost use Rattle.model.specs.Network.{network};
 ghost use Rattle.table.specs.Table.{tableCheck};
 use model::Check;
-
-// 2: the answer list is too short for so many entries.
-fn check_room(count: usize, answers: &[u32]) -> Check
-    ensures { λ r. ⌜ r ≡ roomCheck count (now (answers .entry)) ⌝ }
-{
-    if answers.len() < count {
-        return Check::Refused(Check::LISTS_DIFFER, 0);
-    }
-    Check::Accepted
-}
+use validate::check_room;
 
 // 2, 6 to 9, 12 to 16, 18 and 19. Every refusal 2 is at place 0, so that the answer lists may be looked at first.
 pub(crate) fn check_table(

@@ -10,6 +10,7 @@ ghost use mathlib.Core.Path.{_≡_};
 ghost use Rattle.model.specs.Network.{network};
 ghost use Rattle.model.specs.Checks.{networkCheck, nodesOverNetworkCheck, locationsOverNetworkCheck, setCheck, laidOutCheck, setsOverNetworkCheck, thresholdsCheck, layoutCheck};
 use model::Check;
+pub use number::check_room;
 pub use sets::greatest_set;
 
 // A network alone: 2, then 6 to 9.

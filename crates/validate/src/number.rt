@@ -4,7 +4,7 @@ ghost use lib.Dec.{leb};
 ghost use lib.ListN.{length, getD};
 ghost use Prim.Native.Nat.{pred, _≤_};
 ghost use Rattle.model.specs.Refusal.{isBetween};
-ghost use Rattle.model.specs.Checks.{sameLength};
+ghost use Rattle.model.specs.Checks.{sameLength, roomCheck};
 use model::Check;
 
 // 2: two lists that belong together differ in length.
@@ -15,6 +15,16 @@ pub(crate) fn same_length(one: &[u32], other: &[u32]) -> Check
         return Check::Accepted;
     }
     Check::Refused(Check::LISTS_DIFFER, 0)
+}
+
+// 2: the answer list is too short for so many entries.
+pub fn check_room(count: usize, answers: &[u32]) -> Check
+    ensures { λ r. ⌜ r ≡ roomCheck count (now (answers .entry)) ⌝ }
+{
+    if answers.len() < count {
+        return Check::Refused(Check::LISTS_DIFFER, 0);
+    }
+    Check::Accepted
 }
 
 // Nodes and edges are numbered from 1: the number names one of so many.

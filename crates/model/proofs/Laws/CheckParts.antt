@@ -44,6 +44,10 @@ pub room-accepted : (n : ℕ) (answers : List ℕ) → roomCheck n answers ≡ A
 unfolding roomCheck
 room-accepted n answers e = leb-true _ _ (unless-accepted _ listsDiffer 0 e)
 
+pub room-accepts : (n : ℕ) (answers : List ℕ) → n ≤ length answers → roomCheck n answers ≡ Accepted
+unfolding roomCheck
+room-accepts n answers h = unless-accepts _ listsDiffer 0 (le-leb _ _ h)
+
 pub set-lists-accepted : (sets es xs : List ℕ) → setLists sets es xs ≡ Accepted → (length sets ≡ length es) × (length es ≡ length xs)
 unfolding setLists eventLists
 set-lists-accepted sets es xs e =

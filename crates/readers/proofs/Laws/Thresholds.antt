@@ -7,12 +7,13 @@ use Prim.Native.Nat.{ℕ, zero, suc, pred, _-_, _≤_, _<_}
 use native.Mathlib.Nat.{eq-or-lt-of-le}
 use native.Mathlib.Numerals.{sub-one}
 use native.Mathlib.Omega.{arith}
-use borrow.Author.Tests.{le-leb, ltb-true}
+use borrow.Author.Tests.{ltb-true}
 use lib.Dec.{ltb}
 use lib.ListN.{length, getD, take, length-append, List·getD-append}
 use lib.Seq.{getD-append-seam, take-length}
-use Rattle.model.proofs.Laws.Refusal.{both-accepted, both-accept, unless-accepts, all-good}
-use Rattle.model.specs.Checks.{thresholdsCheck, thresholdCountCheck, risingCheck}
+use Rattle.model.proofs.Laws.Checks.{thresholds-accepts}
+use Rattle.model.proofs.Laws.Refusal.{both-accepted}
+use Rattle.model.specs.Checks.{thresholdsCheck}
 use Rattle.model.specs.Limits.{maxThresholds}
 use Rattle.model.specs.Refusal.{badThresholds, notRising}
 use Rattle.model.specs.declared.check.Check.the-variants.{Accepted}
@@ -98,11 +99,9 @@ read-rising lines all e =
 
 -- The thresholds of a text that is accepted pass 18 and 19.
 pub rising-pass : (xs : List ℕ) → Rising xs → 1 ≤ length xs → thresholdsCheck xs ≡ Accepted
-unfolding thresholdsCheck thresholdCountCheck risingCheck
 rising-pass xs g one =
-    both-accept
-    (both-accept (unless-accepts _ badThresholds 0 (le-leb _ _ one)) (unless-accepts _ badThresholds maxThresholds (le-leb _ _ (g .few))))
-    (all-good notRising _ 1 (pred (length xs)) (λ k l h. g .above k l (omega arith)))
+    thresholds-accepts xs
+    (record { some = one; few = g .few; rising = λ k h. ltb-true (getD xs k 0) (getD xs (suc k) 0) (g .above (suc k) (omega arith) h) })
 
 pub thresholds-pass : (bytes answers : List ℕ) → thresholdTextCheck bytes answers ≡ Accepted → thresholdsCheck (textThresholds bytes) ≡ Accepted
 unfolding thresholdTextCheck textThresholds

@@ -3,7 +3,6 @@ use mathlib.Core.List.{List}
 use mathlib.Core.Path.{_≡_, refl, ap, _∙_}
 use Prim.Native.Nat.{ℕ, _≤_}
 use native.Mathlib.Omega.{arith}
-use borrow.Author.Tests.{le-leb}
 use lib.ListN.{length}
 use Rattle.model.specs.Checks.{networkCheck, roomCheck}
 use Rattle.model.specs.Limits.{maxEdges, maxEvents, maxThresholds}
@@ -11,9 +10,9 @@ use Rattle.model.specs.Network.{Network}
 use Rattle.model.specs.Refusal.{orElse}
 use Rattle.model.specs.declared.check.Check.{Check}
 use Rattle.model.specs.declared.check.Check.the-variants.{Accepted, Refused}
+use Rattle.model.proofs.Laws.CheckParts.{room-accepts}
 use Rattle.model.proofs.Laws.Checks as model
 use Rattle.model.proofs.Laws.Refusal.{both-accept, or-else-next}
-use Rattle.printing.proofs.Laws.Verdict.{room-accepted}
 use Rattle.readers.specs.Answers.{checkOf, textNetwork, textRows, textThresholds, networkTextCheck, eventTextCheck, thresholdTextCheck}
 use Rattle.readers.specs.Parallel.{Level}
 use Rattle.readers.proofs.Laws.Answers.{list-read}
@@ -45,7 +44,7 @@ last-of-three (Refused n p) b c d h = refl
 room : (n most : ℕ) (answers : List ℕ) → n ≤ most → length answers ≡ most → roomCheck n answers ≡ Accepted
 room n most answers h e =
     let fits : n ≤ length answers = omega arith in
-    room-accepted n answers (le-leb n (length answers) fits)
+    room-accepts n answers fits
 
 rooms : (n most : ℕ) (xs ys zs : List ℕ) → n ≤ most → Level most xs ys zs → orElse (roomCheck n xs) (orElse (roomCheck n ys) (roomCheck n zs)) ≡ Accepted
 rooms n most xs ys zs h level =

@@ -3,7 +3,6 @@ use mathlib.Core.List.{List, [], _∷_}
 use mathlib.Core.Path.{_≡_, refl, _∙_}
 use Prim.Native.Nat.{ℕ, _*_, _≤_}
 use native.Mathlib.Omega.{arith}
-use borrow.Author.Tests.{le-leb}
 use lib.ListN.{length, length-append}
 use Rattle.model.specs.Checks.{roomCheck}
 use Rattle.model.specs.Envelope.{Envelope, observed, envelope}
@@ -12,13 +11,13 @@ use Rattle.model.specs.Limits.{maxThresholds}
 use Rattle.model.specs.Network.{Network}
 use Rattle.model.specs.declared.check.Check.{Check}
 use Rattle.model.specs.declared.check.Check.the-variants.{Accepted, Refused}
+use Rattle.model.proofs.Laws.CheckParts.{room-accepts}
 use Rattle.printing.specs.Answers.{printedAnswer}
 use Rattle.printing.specs.Bytes.{row}
 use Rattle.printing.specs.declared.answers.Printed.{Printed}
 use Rattle.printing.specs.declared.answers.Printed.the-variants as printed
 use Rattle.printing.proofs.Laws.Digits.{digits-few}
 use Rattle.printing.proofs.Laws.Sizes.{span-few, row-length, refusal-length}
-use Rattle.printing.proofs.Laws.Verdict.{room-accepted}
 use Rattle.readers.specs.Answers.{listIn, textThresholds}
 use Rattle.readers.proofs.Laws.Thresholds.{read-rising}
 use Rattle.text.specs.Lines.{csvLines}
@@ -65,7 +64,7 @@ report-short network reports thresholds =
 pub report-fits : (network reports thresholds out : List ℕ) → reportRoom ≤ length out → roomCheck (length (reportBytes network reports thresholds)) out ≡ Accepted
 report-fits network reports thresholds out enough =
     let fits : length (reportBytes network reports thresholds) ≤ length out = omega (arith, report-short network reports thresholds) in
-    room-accepted _ out (le-leb (length (reportBytes network reports thresholds)) (length out) fits)
+    room-accepts _ out fits
 
 -- the promise, with the room told
 pub report-printed : (network reports thresholds : List ℕ) {out : List ℕ} {r : Printed} {out′ : List ℕ} → BytesPrinted (reportBytes network reports thresholds) out r out′ → ReportPrinted network reports thresholds out r out′

@@ -4,7 +4,6 @@ use mathlib.Core.List.{List, map}
 use mathlib.Core.Path.{_≡_, refl, sym, ap, _∙_}
 use Prim.Native.Nat.{ℕ, zero, suc, _-_, _≤_}
 use native.Mathlib.Omega.{arith}
-use borrow.Author.Tests.{le-leb}
 use lib.ListN.{length, take, length-map}
 use lib.Seq.{length-take-le}
 use Rattle.model.specs.Answer.{written}
@@ -15,11 +14,12 @@ use Rattle.model.specs.Limits.{maxThresholds}
 use Rattle.model.specs.Network.{Network}
 use Rattle.model.specs.declared.check.Check.{Check}
 use Rattle.model.specs.declared.check.Check.the-variants as check
+use Rattle.model.proofs.Laws.CheckParts.{room-accepts}
 use Rattle.model.proofs.Laws.Checks.{thresholds-accepted}
 use Rattle.model.proofs.Laws.Refusal.{both-accept}
 use Rattle.printing.specs.Answers.{TablePrinted, tableBytes}
 use Rattle.printing.specs.declared.answers.Printed.{Printed}
-use Rattle.printing.proofs.Laws.Verdict.{room-accepted, room-decides}
+use Rattle.printing.proofs.Laws.Verdict.{room-decides}
 use Rattle.readers.proofs.Laws.Answers.{front-is}
 use Rattle.readers.specs.Parallel.{Level}
 use Rattle.table.specs.Table.{TableAnswered, leasts, greatests, tableAnswer, tableCheck}
@@ -67,7 +67,7 @@ module _ {net : Network} {sets es xs ts o l u : List ℕ} (pass : AllPass net se
   room : (answers : List ℕ) → length answers ≡ maxThresholds → roomCheck (length ts) answers ≡ check.Accepted
   room answers e =
       let fits : length ts ≤ length answers = omega (arith, few) in
-      room-accepted (length ts) answers (le-leb (length ts) (length answers) fits)
+      room-accepts (length ts) answers fits
 
   accepted : tableCheck net sets es xs ts o l u ≡ check.Accepted
   unfolding tableCheck

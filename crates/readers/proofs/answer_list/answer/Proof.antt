@@ -1,5 +1,6 @@
 use mathlib.Core.Path.{sym, _∙_}
-use Rattle.readers.proofs.Answering.{has-room, too-short, filled}
+use Rattle.model.proofs.Laws.CheckParts.{room-accepted}
+use Rattle.readers.proofs.Answering.{too-short, filled}
 use borrow.Author.Needs.{needs}
 use Rattle.readers.proofs.answer_list.answer.Statement.{statement}
 use Rattle.readers.proofs.answer_list.answer.Tie as tie
@@ -20,7 +21,7 @@ enum-told : tie.Need-enum-told
 enum-told c = search needs
 
 fill-requires : tie.Need-fill-requires
-fill-requires c κs = has-room _ _ (sym (c .before .before .before .check-room .ensures) ∙ c .before .enum-told .given .1)
+fill-requires c κs = room-accepted _ _ (sym (c .before .before .before .check-room .ensures) ∙ c .before .enum-told .given .1)
 
 same-length-2 : tie.Need-same-length-2
 same-length-2 c = search needs

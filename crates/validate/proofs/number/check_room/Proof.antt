@@ -2,8 +2,8 @@ use mathlib.Core.Path.{sym}
 use borrow.Author.Tests.{le-leb, lt-leb}
 use Rattle.model.proofs.Laws.Refusal.{unless-accepts, unless-refuses}
 use Rattle.model.specs.Checks.{roomCheck}
-use Rattle.readers.proofs.answer_list.check_room.Statement.{statement}
-use Rattle.readers.proofs.answer_list.check_room.Tie as tie
+use Rattle.validate.proofs.number.check_room.Statement.{statement}
+use Rattle.validate.proofs.number.check_room.Tie as tie
 
 returns : tie.Need-returns
 unfolding roomCheck
