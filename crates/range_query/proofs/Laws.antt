@@ -2,6 +2,7 @@
 pub mod Between
 pub mod Tally
 pub mod Steps
+pub mod Cells
 pub mod Ladder
 pub mod Ways
 pub mod Table

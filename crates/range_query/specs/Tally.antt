@@ -8,25 +8,32 @@ use lib.ListN.{length, getD}
 use Rattle.model.specs.Counting.{sumBelow}
 use Rattle.model.specs.Limits.{maxThresholds}
 
--- the places of the list of steps: the step of the greatest threshold, the shift behind the steps, and behind it the cells
+-- the places of the list of steps: the step of the greatest threshold, behind the steps the shift and the most steps of a cell, and
+-- behind them the cells
 abbrev pub lastStep : ℕ
 lastStep = 63
 
 abbrev pub shiftAt : ℕ
 shiftAt = 64
 
+abbrev pub mostAt : ℕ
+mostAt = 65
+
 abbrev pub firstCell : ℕ
-firstCell = 65
+firstCell = 66
 
 abbrev pub cellCount : ℕ
 cellCount = 8192
 
-abbrev pub ladderLength : ℕ
-ladderLength = 8257
+abbrev pub lastCell : ℕ
+lastCell = 8191
 
--- a shift that is none
-abbrev pub noShift : ℕ
-noShift = 64
+abbrev pub ladderLength : ℕ
+ladderLength = 8258
+
+-- a cell is of 2 ^ 31 metres at most
+abbrev pub shiftEnd : ℕ
+shiftEnd = 32
 
 -- the sum of f over the numbers from a up to before b
 unfoldable pub sumBetween : ℕ → ℕ → (ℕ → ℕ) → ℕ
@@ -42,30 +49,47 @@ pub record Bracket (steps : List ℕ) (d pos n : ℕ) : Type 0 where
 pub record Level (steps : List ℕ) : Type 0 where
   pub level : (j k : ℕ) → j ≤ k → k < maxThresholds → getD steps j 0 ≤ getD steps k 0
 
--- behind the steps a shift, and behind it a cell for each 2 ^ shift metres up to the greatest threshold: only the step that it names
--- need be looked at
-pub record Celled (steps : List ℕ) : Type 0 where
-  pub in-list : (d : ℕ) → d ≤ getD steps lastStep 0 → d / 2 ^ getD steps shiftAt 0 < cellCount
-  pub names : (d : ℕ) → d ≤ getD steps lastStep 0 → Bracket steps d (getD steps (firstCell + d / 2 ^ getD steps shiftAt 0) 0) 1
+-- the start of the last cell, or the greatest threshold where that comes first
+unfoldable pub capOf : ℕ → ℕ → ℕ
+capOf greatest width = min greatest (lastCell * width)
 
--- the steps do not fall, and are thresholds; there are cells if the shift is one that is told (noShift is none)
+-- the cell of d: the last one has no end
+unfoldable pub cellOf : ℕ → ℕ → ℕ → ℕ
+cellOf greatest width d = min d (capOf greatest width) / width
+
+-- a cell for each so many metres up to the greatest threshold: only the most steps from the one that it names on need be looked at
+pub record Cells (steps : List ℕ) (most width : ℕ) : Type 0 where
+  pub in-list : (d : ℕ) → cellOf (getD steps lastStep 0) width d < cellCount
+  pub fits : (d : ℕ) → getD steps (firstCell + cellOf (getD steps lastStep 0) width d) 0 + most ≤ maxThresholds
+  pub names : (d : ℕ) → d ≤ getD steps lastStep 0 → Bracket steps d (getD steps (firstCell + cellOf (getD steps lastStep 0) width d) 0) most
+
+-- behind the steps a shift, and cells of 2 ^ shift metres
+pub record Celled (steps : List ℕ) (most : ℕ) : Type 0 where
+  pub shift-to : getD steps shiftAt 0 < shiftEnd
+  pub cells : Cells steps most (2 ^ getD steps shiftAt 0)
+
+-- the steps do not fall, and are thresholds; there are cells if they may have any steps
 pub record Steps (steps : List ℕ) : Type 0 where
   pub level : (j k : ℕ) → j ≤ k → k < maxThresholds → getD steps j 0 ≤ getD steps k 0
   pub small : (k : ℕ) → k < maxThresholds → getD steps k 0 < 4294967296
-  pub celled : getD steps shiftAt 0 < noShift → Celled steps
+  pub celled : 1 ≤ getD steps mostAt 0 → Celled steps (getD steps mostAt 0)
 
--- steps with cells, their shift and the greatest of them
-pub record CellsAsked (steps : List ℕ) (shift greatest : ℕ) : Type 0 where
-  pub rising : Steps steps
-  pub shift-is : shift ≡ getD steps shiftAt 0
-  pub shift-to : shift < noShift
-  pub greatest-is : greatest ≡ getD steps lastStep 0
+-- the shift of the cells, and where the last one starts
+pub record CellsAsked (steps : List ℕ) (most shift cap : ℕ) : Type 0 where
+  pub shift-to : shift < shiftEnd
+  pub cells : Cells steps most (2 ^ shift)
+  pub cap-is : cap ≡ capOf (getD steps lastStep 0) (2 ^ shift)
+
+-- the most steps from number r on are there, and are all that need be looked at if d is within the greatest threshold
+pub record Named (steps : List ℕ) (most d r : ℕ) : Type 0 where
+  pub fits : r + most ≤ maxThresholds
+  pub looked-at : d ≤ getD steps lastStep 0 → Bracket steps d r most
 
 -- the thresholds, the greatest repeated behind them, and cells that are right if the thresholds rise
 pub record Spread (ts steps : List ℕ) : Type 0 where
   pub at : (k : ℕ) → k < maxThresholds → getD steps k 0 ≡ getD ts (min k (length ts - 1)) 0
   pub small : (k : ℕ) → k < maxThresholds → getD steps k 0 < 4294967296
-  pub celled : Level steps → getD steps shiftAt 0 < noShift → Celled steps
+  pub celled : Level steps → 1 ≤ getD steps mostAt 0 → Celled steps (getD steps mostAt 0)
 
 -- b is the number of steps that do not admit d
 pub record Bucket (steps : List ℕ) (d b : ℕ) : Type 0 where

@@ -6,7 +6,7 @@ ghost use lib.Dec.{leb, ltb};
 ghost use lib.ListN.{length, getD};
 ghost use Rattle.model.specs.Counting.{countBelow};
 ghost use Rattle.range_query.specs.Metres.{meet};
-ghost use Rattle.range_query.specs.Tally.{shiftAt, noShift, Steps, Bracket, Bucket, CellsAsked, Added, RowFits};
+ghost use Rattle.range_query.specs.Tally.{lastStep, shiftEnd, capOf, Steps, Bracket, Bucket, Celled, CellsAsked, Named, Added, RowFits};
 use crate::metres::lesser;
 use crate::metres::meet;
 use crate::metres::wide;
@@ -21,17 +21,22 @@ pub const LAST_STEP: usize = STEPS - 1;
 // A bucket for each step, and one for what no step admits.
 pub const BUCKETS: usize = STEPS + 1;
 
-// Behind the steps stands a shift, and behind it a cell for each 2^shift metres up to the greatest threshold: the number of the one
-// step that may lie within them. The shift is NO_CELLS where no such cells can be had.
+// Behind the steps stand a shift, the most steps that a cell may have, and a cell for each 2^shift metres up to the greatest threshold,
+// the last one without end: the number of its first step. The most is 0 where no such cells can be had.
 pub const SHIFT_AT: usize = STEPS;
 
-pub const FIRST_CELL: usize = STEPS + 1;
+pub const MOST_AT: usize = SHIFT_AT + 1;
+
+pub const FIRST_CELL: usize = MOST_AT + 1;
 
 pub const CELLS: usize = 8192;
 
 pub const LADDER: usize = FIRST_CELL + CELLS;
 
-pub const NO_CELLS: u32 = 64;
+// Cells have one step each, or else a few.
+pub const ALONE: usize = 1;
+
+pub const FEW: usize = 7;
 
 // So many steps are passed if the last of them does not admit d.
 fn passed(step: u32, d: u64, half: usize) -> usize
@@ -43,7 +48,7 @@ fn passed(step: u32, d: u64, half: usize) -> usize
 // Halves the steps among which the first that admits d is looked for.
 fn narrow(steps: &[u32; LADDER], d: u64, pos: usize, half: usize) -> usize
     requires { ⌜ Steps (now steps) × (1 ≤ half) × (pos + half ≤ 64) ⌝ }
-    ensures { λ r. ⌜ ((rest : ℕ) → half ≤ suc rest → Bracket (now (steps .entry)) d pos (half + rest) → Bracket (now (steps .entry)) d r rest) ⌝ }
+    ensures { λ r. ⌜ (r ≤ pos + half) × ((rest : ℕ) → half ≤ suc rest → Bracket (now (steps .entry)) d pos (half + rest) → Bracket (now (steps .entry)) d r rest) ⌝ }
 {
     pos + passed(steps[pos + half - 1], d, half)
 }
@@ -62,23 +67,58 @@ fn bucket(steps: &[u32; LADDER], d: u64) -> usize
     narrow(steps, d, by_1, 1)
 }
 
+// The metres of a cell.
+pub(crate) fn width_of(shift: u32) -> u64
+    requires { ⌜ shift < shiftEnd ⌝ }
+    ensures { λ r. ⌜ (r ≡ 2 ^ shift) × (1 ≤ r) × (r ≤ 2147483648) ⌝ }
+{
+    1u64 << shift
+}
+
+// The start of the last cell, or the greatest threshold where that comes first.
+pub(crate) fn cap_of(greatest: u64, width: u64) -> u64
+    requires { ⌜ width ≤ 2147483648 ⌝ }
+    ensures { λ r. ⌜ r ≡ capOf greatest width ⌝ }
+{
+    lesser(greatest, (CELLS as u64 - 1) * width)
+}
+
 // The cell of 2^shift metres that so many metres lie in.
-fn cell_of(metres: u64, shift: u32) -> usize
-    requires { ⌜ shift < 64 ⌝ }
+pub(crate) fn cell_of(metres: u64, shift: u32) -> usize
+    requires { ⌜ shift < shiftEnd ⌝ }
     ensures { λ r. ⌜ r ≡ metres / 2 ^ shift ⌝ }
 {
     (metres >> shift) as usize
 }
 
+// The first step of the cell of d, from which on most steps need be looked at.
+fn named(steps: &[u32; LADDER], most: usize, shift: u32, cap: u64, d: u64) -> usize
+    requires { ⌜ CellsAsked (now steps) most shift cap ⌝ }
+    ensures { λ r. ⌜ Named (now (steps .entry)) most d r ⌝ }
+{
+    let cell = cell_of(lesser(d, cap), shift);
+    steps[FIRST_CELL + cell] as usize
+}
+
 // The number of steps that do not admit d: one step is looked at, that of its cell.
-fn bucket_by_cell(steps: &[u32; LADDER], shift: u32, greatest: u64, d: u64) -> usize
-    requires { ⌜ CellsAsked (now steps) shift greatest ⌝ }
+fn bucket_by_cell(steps: &[u32; LADDER], shift: u32, cap: u64, greatest: u64, d: u64) -> usize
+    requires { ⌜ Steps (now steps) × CellsAsked (now steps) 1 shift cap × (greatest ≡ getD (now steps) lastStep 0) ⌝ }
     ensures { λ r. ⌜ Bucket (now (steps .entry)) d r ⌝ }
 {
-    let near = lesser(d, greatest);
-    let cell = cell_of(near, shift);
-    let step = steps[FIRST_CELL + cell] as usize;
-    let found = narrow(steps, near, step, 1);
+    let step = named(steps, ALONE, shift, cap, d);
+    let found = narrow(steps, d, step, 1);
+    if greatest < d { STEPS } else { found }
+}
+
+// The same where a cell has a few steps: they are halved three times.
+fn bucket_by_few(steps: &[u32; LADDER], shift: u32, cap: u64, greatest: u64, d: u64) -> usize
+    requires { ⌜ Steps (now steps) × CellsAsked (now steps) 7 shift cap × (greatest ≡ getD (now steps) lastStep 0) ⌝ }
+    ensures { λ r. ⌜ Bucket (now (steps .entry)) d r ⌝ }
+{
+    let step = named(steps, FEW, shift, cap, d);
+    let by_4 = narrow(steps, d, step, 4);
+    let by_2 = narrow(steps, d, by_4, 2);
+    let found = narrow(steps, d, by_2, 1);
     if greatest < d { STEPS } else { found }
 }
 
@@ -103,7 +143,7 @@ fn row_by_halves(
     }
 }
 
-// The same by the steps' cells.
+// The same by cells of one step each.
 fn row_by_cells(
     ys: &[u32],
     p: u64,
@@ -111,18 +151,50 @@ fn row_by_cells(
     other: u64,
     place: u64,
     steps: &[u32; LADDER],
-    shift: u32,
     buckets: &mut [u32; BUCKETS],
 )
-    requires { ⌜ RowFits p q other (now ys) (now steps) (now buckets) × (shift ≡ getD (now steps) shiftAt 0) × (shift < noShift) ⌝ }
+    requires { ⌜ RowFits p q other (now ys) (now steps) (now buckets) × Celled (now steps) 1 ⌝ }
     ensures { λ _. ⌜ Added (now (steps .entry)) (now (buckets .entry)) (now (buckets .exit)) (length (now (ys .entry))) (λ t. countBelow (length (now (ys .entry))) (λ j. leb (meet p q other place (getD (now (ys .entry)) j 0)) t)) ⌝ }
 {
+    let shift = steps[SHIFT_AT];
     let greatest = wide(steps[LAST_STEP]);
+    let cap = cap_of(greatest, width_of(shift));
     let mut j = 0;
     while j < ys.len() {
         let b = bucket_by_cell(
             steps,
             shift,
+            cap,
+            greatest,
+            meet(p, q, other, place, ys[j] as u64),
+        );
+        buckets[b] += 1;
+        j += 1;
+    }
+}
+
+// The same by cells of a few steps each.
+fn row_by_few(
+    ys: &[u32],
+    p: u64,
+    q: u64,
+    other: u64,
+    place: u64,
+    steps: &[u32; LADDER],
+    buckets: &mut [u32; BUCKETS],
+)
+    requires { ⌜ RowFits p q other (now ys) (now steps) (now buckets) × Celled (now steps) 7 ⌝ }
+    ensures { λ _. ⌜ Added (now (steps .entry)) (now (buckets .entry)) (now (buckets .exit)) (length (now (ys .entry))) (λ t. countBelow (length (now (ys .entry))) (λ j. leb (meet p q other place (getD (now (ys .entry)) j 0)) t)) ⌝ }
+{
+    let shift = steps[SHIFT_AT];
+    let greatest = wide(steps[LAST_STEP]);
+    let cap = cap_of(greatest, width_of(shift));
+    let mut j = 0;
+    while j < ys.len() {
+        let b = bucket_by_few(
+            steps,
+            shift,
+            cap,
             greatest,
             meet(p, q, other, place, ys[j] as u64),
         );
@@ -144,9 +216,11 @@ pub(crate) fn row(
     requires { ⌜ RowFits p q other (now ys) (now steps) (now buckets) ⌝ }
     ensures { λ _. ⌜ Added (now (steps .entry)) (now (buckets .entry)) (now (buckets .exit)) (length (now (ys .entry))) (λ t. countBelow (length (now (ys .entry))) (λ j. leb (meet p q other place (getD (now (ys .entry)) j 0)) t)) ⌝ }
 {
-    let shift = steps[SHIFT_AT];
-    if shift < NO_CELLS {
-        row_by_cells(ys, p, q, other, place, steps, shift, buckets);
+    let most = steps[MOST_AT];
+    if most == ALONE as u32 {
+        row_by_cells(ys, p, q, other, place, steps, buckets);
+    } else if most == FEW as u32 {
+        row_by_few(ys, p, q, other, place, steps, buckets);
     } else {
         row_by_halves(ys, p, q, other, place, steps, buckets);
     }

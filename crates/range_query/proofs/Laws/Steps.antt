@@ -8,7 +8,7 @@ use native.Mathlib.Omega.{arith}
 use borrow.Author.Tests.{le-leb, lt-leb, lt-ltb, le-ltb}
 use lib.Dec.{leb, ltb}
 use lib.ListN.{getD}
-use Rattle.range_query.specs.Tally.{Steps, Bracket, Bucket}
+use Rattle.range_query.specs.Tally.{Steps, Bracket, Bucket, Celled}
 
 -- before any step is looked at
 pub bracket-all : (steps : List ℕ) (d : ℕ) → Bracket steps d 0 64
@@ -50,6 +50,6 @@ bucket-beyond steps d up h =
       admits = λ k l. lt-leb 64 k l ∙ sym (lt-leb d (getD steps k 0) (omega (arith, up .level k 63 (omega arith) (omega arith))));
     }
 
--- a number within the greatest, looked for as the lesser of the two
-pub bucket-within : (steps : List ℕ) (d near b : ℕ) → near ≡ d → Bracket steps near b 0 → Bucket steps d b
-bucket-within steps d near b e w = bracket-found steps d b (rw e at w)
+-- the cells that are there
+pub celled-for : {steps : List ℕ} (n : ℕ) → Steps steps → getD steps 65 0 ≡ n → 1 ≤ n → Celled steps n
+celled-for n up e h = rw e at (up .celled (omega arith))

@@ -8,13 +8,13 @@ use Rattle.range_query.proofs.ladder.skip.Statement.{statement}
 use Rattle.range_query.proofs.ladder.skip.Tie as tie
 
 abbrev Inv-loop : tie.InvT-loop
-Inv-loop steps metres c k₀ k = (c ≤ k) × (k ≤ 63) × ((j : ℕ) → c ≤ j → j < k → getD steps j 0 < metres)
+Inv-loop steps metres c last k₀ k = (c ≤ k) × (k ≤ last) × ((j : ℕ) → c ≤ j → j < k → getD steps j 0 < metres)
 
 abbrev μ-loop : tie.MeasureT-loop
-μ-loop steps metres c k₀ k = 63 - k
+μ-loop steps metres c last k₀ k = last - k
 
 loop-holds : tie.Need-loop-holds Inv-loop μ-loop
-loop-holds c = (omega arith, c .pre, λ j h l. absurd (omega arith))
+loop-holds c = (omega arith, c .pre .0, λ j h l. absurd (omega arith))
 
 mul-wide : tie.Need-mul-wide Inv-loop μ-loop
 mul-wide c = search needs

@@ -1,4 +1,4 @@
--- The steps are spread, the cells are filled, and the shift is told if they are.
+-- The steps are spread, the cells are filled, and the most steps of one are told.
 use Rattle.range_query.proofs.Laws.Ladder.{all-spread}
 use borrow.Author.Needs.{needs}
 use native.Mathlib.Omega.{arith}
@@ -6,7 +6,7 @@ use Rattle.range_query.proofs.ladder.spread.Statement.{statement}
 use Rattle.range_query.proofs.ladder.spread.Tie as tie
 
 spread-steps-requires : tie.Need-spread-steps-requires
-spread-steps-requires c κs = c .before .before .pre
+spread-steps-requires c κs = search needs
 
 least-gap-requires : tie.Need-least-gap-requires
 least-gap-requires c κs = search needs
@@ -14,20 +14,17 @@ least-gap-requires c κs = search needs
 shift-within-requires : tie.Need-shift-within-requires
 shift-within-requires c κs = search needs
 
-width-of-requires : tie.Need-width-of-requires
-width-of-requires c κs = c .shift-within .ensures
+fill-any-requires : tie.Need-fill-any-requires
+fill-any-requires c κs = (record { long = c .before .before .before .spread-steps .ensures .long; small = c .before .before .before .spread-steps .ensures .small 63 (omega arith); some = omega arith; few = omega arith }, c .before .shift-within .ensures)
 
-fill-cells-requires : tie.Need-fill-cells-requires
-fill-cells-requires c κs = (c .before .before .before .before .spread-steps .ensures .long, c .before .before .before .before .spread-steps .ensures .small 63 (omega arith), c .before .width-of .ensures .1, c .before .width-of .ensures .2)
-
-shift-or-none-requires : tie.Need-shift-or-none-requires
-shift-or-none-requires c κs = c .before .before .before .shift-within .ensures
+cast-steps : tie.Need-cast-steps
+cast-steps c = search needs
 
 element-write-steps : tie.Need-element-write-steps
 element-write-steps c = search needs
 
 returns : tie.Need-returns
-returns c = all-spread _ _ _ _ (c .before .before .before .before .before .before .spread-steps .ensures) (c .before .before .before .width-of .ensures .0) (c .before .fill-cells .ensures) (c .shift-or-none .ensures)
+returns c = all-spread _ (c .before .before .before .before .spread-steps .ensures) (c .fill-any .ensures)
 
 pub spread-spec : {M : Type 1} → statement M
 spread-spec =
@@ -36,8 +33,7 @@ spread-spec =
     spread-steps-requires
     least-gap-requires
     shift-within-requires
-    width-of-requires
-    fill-cells-requires
-    shift-or-none-requires
+    fill-any-requires
+    cast-steps
     element-write-steps
     returns)

@@ -6,8 +6,8 @@ use lib.Pow.{shl-exact}
 use mathlib.Core.Path.{_≡_, _∙_}
 use native.Mathlib.Nat.{one-mul, one-le-pow, pow-le-pow-right}
 use native.Mathlib.Omega.{arith}
-use Rattle.range_query.proofs.ladder.width_of.Statement.{statement}
-use Rattle.range_query.proofs.ladder.width_of.Tie as tie
+use Rattle.range_query.proofs.tally.width_of.Statement.{statement}
+use Rattle.range_query.proofs.tally.width_of.Tie as tie
 
 shl-result : tie.Need-shl-result
 shl-result c = search needs
