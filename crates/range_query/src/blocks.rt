@@ -9,7 +9,6 @@ ghost use Rattle.range_query.specs.Metres.{Ways, far, way, edgePair};
 ghost use Rattle.range_query.specs.Runs.{Apart, Block, blockMetres, pairsWithin};
 ghost use Rattle.range_query.specs.Tally.{Steps, Added, Room};
 use crate::metres::EdgePair;
-use crate::metres::lesser;
 use crate::metres::place_on;
 use crate::metres::to_first;
 use crate::metres::to_second;
@@ -18,6 +17,7 @@ use crate::metres::wide;
 use crate::tally::BUCKETS;
 use crate::tally::LADDER;
 use crate::tally::row;
+use model::lesser;
 
 pub(crate) fn earlier(a: usize, b: usize) -> usize
     ensures { λ r. ⌜ r ≡ min a b ⌝ }

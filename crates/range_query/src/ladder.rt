@@ -7,8 +7,6 @@ ghost use Rattle.model.specs.Limits.{maxThresholds};
 ghost use Rattle.range_query.specs.Ladder.{SpreadSteps, Skipped, Alone, CellEnd, CellsAllowed, CellsFilled};
 ghost use Rattle.range_query.specs.Tally.{lastStep, shiftEnd, ladderLength, Level, Spread};
 use crate::blocks::earlier;
-use crate::metres::apart;
-use crate::metres::lesser;
 use crate::metres::wide;
 use crate::tally::ALONE;
 use crate::tally::FEW;
@@ -21,6 +19,8 @@ use crate::tally::STEPS;
 use crate::tally::cap_of;
 use crate::tally::cell_of;
 use crate::tally::width_of;
+use model::apart;
+use model::lesser;
 
 // Spreads the thresholds over all steps: behind the greatest it is repeated.
 fn spread_steps(thresholds: &[u32], steps: &mut [u32; LADDER])

@@ -1,8 +1,9 @@
 // The metres between two events: the ways between their edges' ends are read once for two edges.
 ghost use mathlib.Core.Path.{_≡_};
-ghost use Prim.Native.Nat.{min, _≤_};
-ghost use Rattle.model.specs.Distance.{difference};
+ghost use Prim.Native.Nat.{_≤_};
 ghost use Rattle.range_query.specs.Metres.{Ways, way, toFirst, toSecond, placeOn, meet};
+use model::apart;
+use model::lesser;
 
 // Stands for no way: above every threshold, and so are the sums it stands in.
 const FAR: u64 = 1099511627776;
@@ -22,18 +23,6 @@ pub(crate) fn wide(x: u32) -> u64
     ensures { λ r. ⌜ r ≡ x ⌝ }
 {
     x as u64
-}
-
-pub(crate) fn lesser(a: u64, b: u64) -> u64
-    ensures { λ r. ⌜ r ≡ min a b ⌝ }
-{
-    if b < a { b } else { a }
-}
-
-pub(crate) fn apart(a: u64, b: u64) -> u64
-    ensures { λ r. ⌜ r ≡ difference a b ⌝ }
-{
-    if a < b { b - a } else { a - b }
 }
 
 // The metres of a table entry, which is one more, and 0 for none.

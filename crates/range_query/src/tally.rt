@@ -7,10 +7,10 @@ ghost use lib.ListN.{length, getD};
 ghost use Rattle.model.specs.Counting.{countBelow};
 ghost use Rattle.range_query.specs.Metres.{meet};
 ghost use Rattle.range_query.specs.Tally.{lastStep, shiftEnd, capOf, Steps, Bracket, Bucket, Celled, CellsAsked, Named, Added, RowFits};
-use crate::metres::lesser;
 use crate::metres::meet;
 use crate::metres::wide;
 use model::Thresholds;
+use model::lesser;
 
 // The thresholds are spread over as many steps as there may be thresholds.
 pub const STEPS: usize = Thresholds::MAX_THRESHOLDS;
