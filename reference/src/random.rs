@@ -195,3 +195,20 @@ pub fn even_thresholds(count: usize, max_value: u32) -> Vec<u32> {
     let step = (u64::from(max_value) / count).max(1);
     (1..=count).map(|k| (k * step).min(u64::from(u32::MAX)) as u32).collect()
 }
+
+/// Up to 64 rising thresholds that are not evenly spread: growing from small
+/// ones, crowded in one place, or small ones and a few near the greatest.
+pub fn uneven_thresholds(rng: &mut Rng, max_value: u32) -> Vec<u32> {
+    let (kind, place) = (rng.below(3), rng.between(0, max_value));
+    let mut values: Vec<u32> = (0..MAX_THRESHOLDS)
+        .map(|k| match kind {
+            0 => rng.between(0, max_value) >> rng.below(32),
+            1 => place.saturating_add(rng.between(0, 200)),
+            _ if k < 4 => u32::MAX - rng.between(0, 1_000),
+            _ => rng.between(0, 70),
+        })
+        .collect();
+    values.sort_unstable();
+    values.dedup();
+    values
+}

@@ -213,6 +213,21 @@ fn at_the_limits() {
 }
 
 #[test]
+fn thresholds_of_every_spread() {
+    for (proved, plain) in METHODS {
+        let mut rng = Rng::new(204);
+        for _ in 0..3_000 {
+            let mut case = case(&mut rng, 0);
+            let longest = case.network.lengths.iter().copied().max().unwrap_or(1);
+            case.thresholds = random::uneven_thresholds(&mut rng, longest.saturating_mul(3));
+            case.answers = vec![9; calls::counts_wanted(&case.reports.sets, &case.thresholds)];
+            let told = case.compare(proved, plain).expect("counts");
+            assert_eq!(told, case.naive(), "{plain:?} {case:?}");
+        }
+    }
+}
+
+#[test]
 fn longest_legs_and_the_greatest_threshold() {
     // A path of all nodes with legs of 1,000,000 m, and a part of its own: the
     // greatest threshold admits every pair of the path and none across.

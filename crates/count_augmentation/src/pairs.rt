@@ -4,6 +4,7 @@ ghost use mathlib.Core.List.{List};
 ghost use mathlib.Core.Path.{_≡_};
 ghost use Prim.Native.Nat.{ℕ, pred, _+_, _*_, _≤_, _<_};
 ghost use lib.ListN.{length, getD};
+ghost use Rattle.model.specs.Limits.{maxEvents, maxPairs};
 ghost use Rattle.model.specs.Network.{network};
 ghost use Rattle.prepare.specs.EndTable.{EndTable, TableEntry};
 ghost use Rattle.count_augmentation.specs.Pairs.{lesserEntry, leastEntry, edgePair, reachedBy, reachedPairs, TwoRuns};
@@ -120,7 +121,7 @@ pub(crate) fn count_run(
     near_second: &[u32],
 ) -> u64
     requires { ⌜ TwoRuns g (now «from_offsets») (now offsets) (now «near_first») (now «near_second») ⌝ }
-    ensures { λ r. ⌜ (r ≡ reachedPairs g threshold (now («from_offsets» .entry)) (now (offsets .entry))) × (r ≤ 67108864) ⌝ }
+    ensures { λ r. ⌜ (r ≡ reachedPairs g threshold (now («from_offsets» .entry)) (now (offsets .entry))) × (r ≤ maxPairs) ⌝ }
 {
     if is_beyond(g, threshold) {
         return 0;
@@ -154,7 +155,7 @@ fn count_event(
     near_second: &[u32],
 ) -> u64
     requires { ⌜ (offset ≤ g .size) × Run (g .other) (now offsets) (now «near_first») (now «near_second») ⌝ }
-    ensures { λ r. ⌜ (r ≡ reachedBy g threshold offset (now (offsets .entry))) × (r ≤ 8192) ⌝ }
+    ensures { λ r. ⌜ (r ≡ reachedBy g threshold offset (now (offsets .entry))) × (r ≤ maxEvents) ⌝ }
 {
     let to_first = reach(threshold, g.size, offset, g.firsts, g.back);
     let to_second = reach(threshold, g.size, offset, g.onward, g.seconds);

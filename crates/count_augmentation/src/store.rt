@@ -2,12 +2,13 @@
 ghost use mathlib.Core.Path.{_≡_};
 ghost use Prim.Native.Nat.{ℕ, suc, pred, _≤_, _<_};
 ghost use lib.ListN.{length, getD};
+ghost use Rattle.model.specs.Limits.{maxEvents};
 ghost use Rattle.prepare.specs.Offsets.{Ordered, OnEdge};
 ghost use Rattle.count_augmentation.specs.Storing.{atMost, atLeast, Storable, NumbersStored};
 
 // How many are at most the offset at a place, from that of the next place: equal offsets share their number.
 fn next_at_most(offsets: &[u32], k: usize, later: u32) -> u32
-    requires { ⌜ Ordered (now offsets) × (k < length (now offsets)) × (length (now offsets) ≤ 8192) ⌝ }
+    requires { ⌜ Ordered (now offsets) × (k < length (now offsets)) × (length (now offsets) ≤ maxEvents) ⌝ }
     requires { ⌜ (suc k < length (now offsets) → later ≡ atMost (now offsets) (getD (now offsets) (suc k) 0)) ⌝ }
     ensures { λ r. ⌜ r ≡ atMost (now (offsets .entry)) (getD (now (offsets .entry)) k 0) ⌝ }
 {
@@ -23,7 +24,7 @@ fn next_at_most(offsets: &[u32], k: usize, later: u32) -> u32
 
 // How many are at least the offset at a place, from that of the place before.
 fn next_at_least(offsets: &[u32], k: usize, earlier: u32) -> u32
-    requires { ⌜ Ordered (now offsets) × (k < length (now offsets)) × (length (now offsets) ≤ 8192) ⌝ }
+    requires { ⌜ Ordered (now offsets) × (k < length (now offsets)) × (length (now offsets) ≤ maxEvents) ⌝ }
     requires { ⌜ (0 < k → earlier ≡ atLeast (now offsets) (getD (now offsets) (pred k) 0)) ⌝ }
     ensures { λ r. ⌜ r ≡ atLeast (now (offsets .entry)) (getD (now (offsets .entry)) k 0) ⌝ }
 {

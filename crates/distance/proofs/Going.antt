@@ -4,6 +4,7 @@ use mathlib.Core.Path.{_≡_, _∙_, ap, subst}
 use Prim.Native.Nat.{ℕ, suc, _+_, _*_, _/_, _≤_, _<_}
 use native.Mathlib.Omega.{arith}
 use lib.ListN.{length, getD}
+use Rattle.model.specs.Limits.{maxNodes, maxLength}
 use Rattle.model.specs.Network.{Network, IsNode, edges, size}
 use Rattle.distance.specs.Arcs.{tail, lastArc}
 use Rattle.distance.specs.Keys.{Keyed}
@@ -44,7 +45,7 @@ going-done {net} {source = source} {bound} {dist} {front} {len = len} {picked} {
 
 -- what the first index of the chain rests on
 pub record Begun (last : List ℕ) (v : ℕ) : Type 0 where
-  pub node-small : v ≤ 512
+  pub node-small : v ≤ maxNodes
   pub in-last : v < length last
   pub last-small : getD last v 0 ≤ 2048
 
@@ -61,7 +62,7 @@ pub record Reach (net : Network) (next : List ℕ) (least a : ℕ) : Type 0 wher
   pub in-lengths : a / 2 < length (net .lengths)
   pub in-firsts : a / 2 < length (net .firsts)
   pub in-seconds : a / 2 < length (net .seconds)
-  pub sum-small : least + size net (a / 2) ≤ suc (1000000 * 512)
+  pub sum-small : least + size net (a / 2) ≤ suc (maxLength * maxNodes)
 
 pub reach : {net : Network} {last next : List ℕ} {source bound : ℕ} {dist front keys slots : List ℕ} {len picked v least h : ℕ} → Going net last next source bound dist front keys slots len picked v least h → (a : ℕ) → h ≡ suc a → Reach net next least a
 reach {net} {v = v} {h = h} g a is-arc =
@@ -84,7 +85,7 @@ module _ {net : Network} {last next : List ℕ} {source bound : ℕ} {dist front
   begins : tail (net .firsts) (net .seconds) a ≡ v
   begins = last-leads (net .firsts) (net .seconds) v h a (g .leads ∙ is-arc)
 
-  short : size net (a / 2) ≤ 1000000
+  short : size net (a / 2) ≤ maxLength
   short = g .ready .short (a / 2) (omega (arith, small))
 
   from-arc : Following net source bound dist front len picked v (suc a)

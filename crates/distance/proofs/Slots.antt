@@ -4,6 +4,7 @@ use mathlib.Core.Path.{_≡_}
 use Prim.Native.Nat.{ℕ, _+_, _≤_, _<_}
 use native.Mathlib.Omega.{arith}
 use lib.ListN.{length, getD}
+use Rattle.model.specs.Limits.{maxNodes}
 use Rattle.model.specs.Network.{Network, edges}
 use Rattle.distance.specs.Arcs.{tail}
 use Rattle.distance.specs.Search.{Ready, State}
@@ -12,7 +13,7 @@ use Rattle.distance.proofs.Ways.{last-le}
 
 -- a place of the front in use, and the node that waits there
 pub record Slot (net : Network) (dist front : List ℕ) (k : ℕ) : Type 0 where
-  pub small : k < 512
+  pub small : k < maxNodes
   pub in-front : k < length front
   pub node-small : getD front k 0 ≤ net .nodes
   pub reached : 1 ≤ getD dist (getD front k 0) 0

@@ -30,7 +30,7 @@ turn-start {net} {source = source} {front = front} bound dist′ keys slots key 
     }
 
 module _ {net : Network} {last next : List ℕ} {source bound : ℕ} {dist front keys slots : List ℕ} {len picked : ℕ} (t : Turn net last next source bound dist front keys slots len picked) where
-  pub all-few : len + picked ≤ 512
+  pub all-few : len + picked ≤ maxNodes
   all-few = omega (arith, few (t .state), t .ready .few-nodes)
 
   pub keys-fit : len ≤ length keys

@@ -2,6 +2,7 @@
 ghost use mathlib.Core.Path.{_≡_};
 ghost use Prim.Native.Nat.{ℕ, _+_, _/_, _≤_, _<_};
 ghost use lib.ListN.{length, getD};
+ghost use Rattle.model.specs.Limits.{maxEdges};
 ghost use Rattle.distance.specs.Arcs.{tail, Linked};
 
 // Where an arc begins; with the lists swapped, where it ends.
@@ -15,7 +16,7 @@ pub(crate) fn tail_of(firsts: &[u32], seconds: &[u32], arc: usize) -> u32
 
 // Links the arcs of each node into a chain.
 pub(crate) fn link(nodes: u32, firsts: &[u32], seconds: &[u32], last: &mut [u32], next: &mut [u32])
-    requires { ⌜ (length (now firsts) ≤ 1024) × (length (now seconds) ≡ length (now firsts)) ⌝ }
+    requires { ⌜ (length (now firsts) ≤ maxEdges) × (length (now seconds) ≡ length (now firsts)) ⌝ }
     requires { ⌜ (nodes < length (now last)) × (length (now firsts) + length (now firsts) ≤ length (now next)) ⌝ }
     requires { ⌜ ((a : ℕ) → a < length (now firsts) + length (now firsts) → tail (now firsts) (now seconds) a ≤ nodes) ⌝ }
     ensures { λ _. ⌜ Linked (now (firsts .entry)) (now (seconds .entry)) (now (last .exit)) (now (next .exit)) nodes (length (now (firsts .entry)) + length (now (firsts .entry))) ⌝ }

@@ -38,20 +38,20 @@ unfoldable pub lengthsCheck : Network → Check
 lengthsCheck net = firstBad badLength (λ i. isBetween 1 maxLength (size net i)) (edges net)
 
 -- 12: a set number above the greatest
-unfoldable pub setsCheck : List ℕ → Check
-setsCheck sets = firstBad badSet (λ k. leb (getD sets k 0) maxSet) (length sets)
+unfoldable pub setNumbersCheck : List ℕ → Check
+setNumbersCheck sets = firstBad badSet (λ k. leb (getD sets k 0) maxSet) (length sets)
 
 -- 13: an edge number names no edge
-unfoldable pub edgesCheck : Network → List ℕ → Check
-edgesCheck net es = firstBad noEdge (λ k. isBetween 1 (edges net) (getD es k 0)) (length es)
+unfoldable pub eventEdgesCheck : Network → List ℕ → Check
+eventEdgesCheck net es = firstBad noEdge (λ k. isBetween 1 (edges net) (getD es k 0)) (length es)
 
 -- 14: an offset beyond its edge
-unfoldable pub offsetsCheck : Network → List ℕ → List ℕ → Check
-offsetsCheck net es xs = firstBad beyondEdge (λ k. leb (getD xs k 0) (size net (pred (getD es k 0)))) (length es)
+unfoldable pub eventOffsetsCheck : Network → List ℕ → List ℕ → Check
+eventOffsetsCheck net es xs = firstBad beyondEdge (λ k. leb (getD xs k 0) (size net (pred (getD es k 0)))) (length es)
 
 -- 15: more events than may be held, at the first surplus one
-unfoldable pub eventsCheck : ℕ → Check
-eventsCheck n = unless (leb n maxEvents) tooManyEvents maxEvents
+unfoldable pub eventCountCheck : ℕ → Check
+eventCountCheck n = unless (leb n maxEvents) tooManyEvents maxEvents
 
 -- 16: a comparison set up to the greatest one differs in size from set 0, at the lowest such set
 unfoldable pub equalSetsCheck : List ℕ → Check
@@ -118,7 +118,7 @@ locationsOverNetworkCheck net e x f y =
 
 -- 13 to 15 for events of one set over a network
 unfoldable pub eventValues : Network → List ℕ → List ℕ → Check
-eventValues net es xs = orElse (edgesCheck net es) (orElse (offsetsCheck net es xs) (eventsCheck (length es)))
+eventValues net es xs = orElse (eventEdgesCheck net es) (orElse (eventOffsetsCheck net es xs) (eventCountCheck (length es)))
 
 -- one set in any order, over a network
 unfoldable pub setCheck : Network → List ℕ → List ℕ → Check
@@ -140,7 +140,7 @@ setsOverNetworkCheck net sets es xs =
     orElse (networkLists net)
     (orElse (setLists sets es xs)
     (orElse (networkValues Accepted net)
-    (orElse (setsCheck sets) (orElse (eventValues net es xs) (equalSetsCheck sets)))))
+    (orElse (setNumbersCheck sets) (orElse (eventValues net es xs) (equalSetsCheck sets)))))
 
 -- a threshold list
 unfoldable pub thresholdsCheck : List ℕ → Check
@@ -148,4 +148,4 @@ thresholdsCheck ts = orElse (thresholdCountCheck (length ts)) (risingCheck ts)
 
 -- one set that is to be laid out: no network is lent
 unfoldable pub layoutCheck : List ℕ → List ℕ → Check
-layoutCheck es xs = orElse (eventLists es xs) (eventsCheck (length es))
+layoutCheck es xs = orElse (eventLists es xs) (eventCountCheck (length es))

@@ -1,5 +1,5 @@
 -- The limits of document 01, each written once. The types of src/ that carry them are tied to these by their promises.
-use Prim.Native.Nat.{ℕ}
+use Prim.Native.Nat.{ℕ, _*_}
 
 abbrev pub maxNodes : ℕ
 maxNodes = 512
@@ -14,6 +14,10 @@ maxLength = 1000000
 -- in all sets together
 abbrev pub maxEvents : ℕ
 maxEvents = 8192
+
+-- their ordered pairs, each event with itself too: no count is greater
+abbrev pub maxPairs : ℕ
+maxPairs = maxEvents * maxEvents
 
 -- the greatest set number
 abbrev pub maxSet : ℕ

@@ -1,6 +1,6 @@
 -- What the constructors of the types with limits answer: the sizes, or what the check of the same number refuses with.
 use Prim.Native.Nat.{ℕ}
-use Rattle.model.specs.Checks.{sizesCheck, eventsCheck, thresholdCountCheck}
+use Rattle.model.specs.Checks.{sizesCheck, eventCountCheck, thresholdCountCheck}
 use Rattle.model.specs.declared.check.Check.{Check}
 use Rattle.model.specs.declared.check.Check.the-variants.{Accepted, Refused}
 use Rattle.model.specs.declared.event_set.MadeEventSet.{MadeEventSet}
@@ -19,7 +19,7 @@ unfoldable pub networkOf : ℕ → ℕ → MadeNetwork
 networkOf nodes edges = madeBy (sizesCheck nodes edges) (net.Made (record { nodes = nodes; edges = edges })) net.Refused
 
 unfoldable pub eventSetOf : ℕ → MadeEventSet
-eventSetOf len = madeBy (eventsCheck len) (eventSet.Made (record { len = len })) eventSet.Refused
+eventSetOf len = madeBy (eventCountCheck len) (eventSet.Made (record { len = len })) eventSet.Refused
 
 unfoldable pub thresholdsOf : ℕ → MadeThresholds
 thresholdsOf len = madeBy (thresholdCountCheck len) (thresholds.Made (record { len = len })) thresholds.Refused

@@ -8,6 +8,7 @@ ghost use mathlib.Core.Bool.{false};
 ghost use mathlib.Core.Path.{_≡_};
 ghost use Prim.Native.Nat.{ℕ, pred, _+_, _*_, _≤_, _<_};
 ghost use lib.ListN.{length, getD};
+ghost use Rattle.model.specs.Limits.{maxPairs};
 ghost use Rattle.model.specs.Location.{reaches};
 ghost use Rattle.model.specs.Network.{network};
 ghost use Rattle.prepare.specs.EndTable.{EndTable, TableEntry};
@@ -78,7 +79,7 @@ pub(crate) fn nearest(edges: Edges) -> u64
 // For each event of the first edge, how many of the second are reached, by cursors that are moved from event to event.
 fn count_pairs(threshold: u32, edges: Edges, xs: &[u32], ys: &[u32]) -> u64
     requires { ⌜ EdgesLaid edges (now xs) (now ys) ⌝ }
-    ensures { λ r. ⌜ (r ≡ reachedPairs threshold edges (now (xs .entry)) (now (ys .entry))) × (r ≤ 67108864) ⌝ }
+    ensures { λ r. ⌜ (r ≡ reachedPairs threshold edges (now (xs .entry)) (now (ys .entry))) × (r ≤ maxPairs) ⌝ }
     ensures { λ r. ⌜ r ≡ sweptSum threshold edges (now (xs .entry)) (now (ys .entry)) ⌝ }
 {
     let places = ys.len() as u64;
@@ -102,7 +103,7 @@ pub(crate) fn count_within(
     ys: &[u32],
 ) -> u64
     requires { ⌜ EdgesLaid edges (now xs) (now ys) × Beyond edges nearest ⌝ }
-    ensures { λ r. ⌜ (r ≡ reachedPairs threshold edges (now (xs .entry)) (now (ys .entry))) × (r ≤ 67108864) ⌝ }
+    ensures { λ r. ⌜ (r ≡ reachedPairs threshold edges (now (xs .entry)) (now (ys .entry))) × (r ≤ maxPairs) ⌝ }
 {
     if (threshold as u64) < nearest {
         return 0;

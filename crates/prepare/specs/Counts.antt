@@ -5,7 +5,7 @@ use Prim.Native.Nat.{ℕ, zero, suc, _*_}
 use lib.Dec.{leb}
 use lib.ListN.{length}
 use Rattle.model.specs.Answer.{written}
-use Rattle.model.specs.Checks.{networkLists, setLists, networkValues, setsCheck, eventValues, equalSetsCheck, thresholdsCheck}
+use Rattle.model.specs.Checks.{networkLists, setLists, networkValues, setNumbersCheck, eventValues, equalSetsCheck, thresholdsCheck}
 use Rattle.model.specs.Envelope.{countOfSet}
 use Rattle.model.specs.Events.{Event, events, setCount}
 use Rattle.model.specs.Network.{Network}
@@ -32,7 +32,7 @@ countsCheck net sets es xs ts room =
     (orElse (setLists sets es xs)
     (orElse (unless (leb (setCount sets * length ts) room) listsDiffer 0)
     (orElse (networkValues Accepted net)
-    (orElse (setsCheck sets) (orElse (eventValues net es xs) (orElse (equalSetsCheck sets) (thresholdsCheck ts)))))))
+    (orElse (setNumbersCheck sets) (orElse (eventValues net es xs) (orElse (equalSetsCheck sets) (thresholdsCheck ts)))))))
 
 -- the promise of a counting method: its verdict, and its answer list before and after
 pub record CountsAnswered (net : Network) (sets es xs ts old : List ℕ) (r : Check) (new : List ℕ) : Type 0 where

@@ -3,7 +3,7 @@ use mathlib.Core.List.{List}
 use mathlib.Core.Path.{_≡_}
 use Prim.Native.Nat.{ℕ, pred, _+_, _-_, _*_, _≤_, _<_}
 use lib.ListN.{length, getD}
-use Rattle.model.specs.Limits.{maxThresholds}
+use Rattle.model.specs.Limits.{maxEvents, maxPairs, maxThresholds}
 use Rattle.model.specs.Network.{Network}
 use Rattle.prepare.specs.RunPairs.{allPairs, earlierPairs, RunsReady}
 
@@ -29,7 +29,7 @@ pub record AddedAt (n : ℕ) (f : ℕ → ℕ) (old new : List ℕ) : Type 0 whe
 -- the pairs of run a with the earlier ones from run r on have been added, at each threshold
 pub record EarlierAdded (net : Network) (es xs bounds ts : List ℕ) (r a : ℕ) (old new : List ℕ) : Type 0 where
   pub added : AddedAt (length ts) (λ k. earlierPairs net es xs bounds (getD ts k 0) r a (a - r)) old new
-  pub few : (k : ℕ) → k < length ts → getD new k 0 ≤ getD old k 0 + 549755813888
+  pub few : (k : ℕ) → k < length ts → getD new k 0 ≤ getD old k 0 + maxEvents * maxPairs
 
 -- the pairs of the runs from r up to before q: those within one run, and those with earlier ones, which count twice
 pub record Totalled (net : Network) (es xs bounds ts : List ℕ) (r q : ℕ) (beside earlier : List ℕ) : Type 0 where

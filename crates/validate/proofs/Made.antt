@@ -1,7 +1,7 @@
 -- What the constructors of the types with limits answer, as the check of the same number.
 use mathlib.Core.Path.{_≡_, refl}
 use Prim.Native.Nat.{ℕ}
-use Rattle.model.specs.Checks.{sizesCheck, eventsCheck, thresholdCountCheck}
+use Rattle.model.specs.Checks.{sizesCheck, eventCountCheck, thresholdCountCheck}
 use Rattle.model.specs.Made.{madeBy, networkOf, eventSetOf, thresholdsOf}
 use Rattle.model.specs.declared.check.Check.{Check}
 use Rattle.model.specs.declared.check.Check.the-variants.{Accepted, Refused}
@@ -34,9 +34,9 @@ pub sizes-answer : (nodes edges : ℕ) → networkAnswer (networkOf nodes edges)
 unfolding networkOf
 sizes-answer nodes edges = read-back networkAnswer _ net.Refused refl (λ number place. refl) (sizesCheck nodes edges)
 
-pub events-answer : (count : ℕ) → eventsAnswer (eventSetOf count) ≡ eventsCheck count
+pub events-answer : (count : ℕ) → eventsAnswer (eventSetOf count) ≡ eventCountCheck count
 unfolding eventSetOf
-events-answer count = read-back eventsAnswer _ eventSet.Refused refl (λ number place. refl) (eventsCheck count)
+events-answer count = read-back eventsAnswer _ eventSet.Refused refl (λ number place. refl) (eventCountCheck count)
 
 pub thresholds-answer : (count : ℕ) → thresholdsAnswer (thresholdsOf count) ≡ thresholdCountCheck count
 unfolding thresholdsOf

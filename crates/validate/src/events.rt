@@ -5,7 +5,7 @@ ghost use Prim.Native.Nat.{ℕ, _≤_, _<_};
 ghost use Rattle.model.specs.Events.{event, before};
 ghost use Rattle.model.specs.Refusal.{orElse};
 ghost use Rattle.validate.specs.Part.{withLengths};
-ghost use Rattle.model.specs.Checks.{edgesCheck, offsetsCheck, eventsCheck, eventValues, orderCheck, loneEdgeCheck, loneOffsetCheck};
+ghost use Rattle.model.specs.Checks.{eventEdgesCheck, eventOffsetsCheck, eventCountCheck, eventValues, orderCheck, loneEdgeCheck, loneOffsetCheck};
 use crate::number::is_on_edge;
 use crate::number::names_one;
 use model::Check;
@@ -35,7 +35,7 @@ pub(crate) fn check_lone_offset(lengths: &[u32], edge: u32, offset: u32) -> Chec
 
 // 13: an edge number names no edge.
 fn check_edges(lengths: &[u32], edges: &[u32]) -> Check
-    ensures { λ r. ⌜ r ≡ edgesCheck (withLengths (now (lengths .entry))) (now (edges .entry)) ⌝ }
+    ensures { λ r. ⌜ r ≡ eventEdgesCheck (withLengths (now (lengths .entry))) (now (edges .entry)) ⌝ }
 {
     let mut k = 0;
     while k < edges.len() {
@@ -50,7 +50,7 @@ fn check_edges(lengths: &[u32], edges: &[u32]) -> Check
 // 14: an offset beyond its edge.
 fn check_offsets(lengths: &[u32], edges: &[u32], offsets: &[u32]) -> Check
     requires { ⌜ (length (now edges) ≡ length (now offsets)) × ((k : ℕ) → k < length (now edges) → (1 ≤ getD (now edges) k 0) × (getD (now edges) k 0 ≤ length (now lengths))) ⌝ }
-    ensures { λ r. ⌜ r ≡ offsetsCheck (withLengths (now (lengths .entry))) (now (edges .entry)) (now (offsets .entry)) ⌝ }
+    ensures { λ r. ⌜ r ≡ eventOffsetsCheck (withLengths (now (lengths .entry))) (now (edges .entry)) (now (offsets .entry)) ⌝ }
 {
     let mut k = 0;
     while k < edges.len() {
@@ -64,7 +64,7 @@ fn check_offsets(lengths: &[u32], edges: &[u32], offsets: &[u32]) -> Check
 
 // 15: more events than may be held, at the first surplus one.
 pub(crate) fn check_count(count: usize) -> Check
-    ensures { λ r. ⌜ r ≡ eventsCheck count ⌝ }
+    ensures { λ r. ⌜ r ≡ eventCountCheck count ⌝ }
 {
     match EventSet::new(count) {
         MadeEventSet::Made(_) => Check::Accepted,

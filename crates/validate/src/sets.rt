@@ -6,7 +6,7 @@ ghost use Rattle.model.specs.Limits.{maxSet};
 ghost use Rattle.model.specs.Events.{setSize, greatestSet};
 ghost use Rattle.model.specs.Refusal.{orElse};
 ghost use Rattle.validate.specs.Part.{withLengths};
-ghost use Rattle.model.specs.Checks.{setLists, setsCheck, eventValues, equalSetsCheck};
+ghost use Rattle.model.specs.Checks.{setLists, setNumbersCheck, eventValues, equalSetsCheck};
 use crate::events::check_events;
 use crate::number::same_length;
 use model::Check;
@@ -28,7 +28,7 @@ pub(crate) fn check_lists(sets: &[u32], edges: &[u32], offsets: &[u32]) -> Check
 
 // 12: a set number above the greatest.
 fn check_set_numbers(sets: &[u32]) -> Check
-    ensures { λ r. ⌜ r ≡ setsCheck (now (sets .entry)) ⌝ }
+    ensures { λ r. ⌜ r ≡ setNumbersCheck (now (sets .entry)) ⌝ }
 {
     let mut k = 0;
     while k < sets.len() {
@@ -90,7 +90,7 @@ fn check_equal_sets(sets: &[u32]) -> Check
 // 12, 13 to 15 and 16: events with set numbers.
 pub(crate) fn check_values(lengths: &[u32], sets: &[u32], edges: &[u32], offsets: &[u32]) -> Check
     requires { ⌜ length (now edges) ≡ length (now offsets) ⌝ }
-    ensures { λ r. ⌜ r ≡ orElse (setsCheck (now (sets .entry))) (orElse (eventValues (withLengths (now (lengths .entry))) (now (edges .entry)) (now (offsets .entry))) (equalSetsCheck (now (sets .entry)))) ⌝ }
+    ensures { λ r. ⌜ r ≡ orElse (setNumbersCheck (now (sets .entry))) (orElse (eventValues (withLengths (now (lengths .entry))) (now (edges .entry)) (now (offsets .entry))) (equalSetsCheck (now (sets .entry)))) ⌝ }
 {
     let numbers = check_set_numbers(sets);
     if let Check::Refused(_, _) = numbers {

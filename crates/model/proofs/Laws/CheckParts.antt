@@ -7,7 +7,7 @@ use native.Mathlib.Omega.{arith}
 use borrow.Author.Tests.{eqb-true, eqb-false, eq-eqb, ne-eqb, leb-true, le-leb, ltb-true, lt-ltb, not-true}
 use lib.ListN.{length, getD}
 use Rattle.model.proofs.Laws.Refusal.{Between, both-accepted, both-accept, both-true, or-else-assoc, two-or-accepted, unless-accepted, unless-accepts, between-true, true-between, all-good, good-at, good-below, below-good, good-behind, behind-good}
-use Rattle.model.specs.Checks.{sameLength, roomCheck, sizesCheck, nodesCheck, selfCheck, lengthsCheck, setsCheck, edgesCheck, offsetsCheck, eventsCheck, equalSetsCheck, orderCheck, thresholdCountCheck, risingCheck, loneNodeCheck, loneEdgeCheck, loneOffsetCheck, networkLists, eventLists, setLists}
+use Rattle.model.specs.Checks.{sameLength, roomCheck, sizesCheck, nodesCheck, selfCheck, lengthsCheck, setNumbersCheck, eventEdgesCheck, eventOffsetsCheck, eventCountCheck, equalSetsCheck, orderCheck, thresholdCountCheck, risingCheck, loneNodeCheck, loneEdgeCheck, loneOffsetCheck, networkLists, eventLists, setLists}
 use Rattle.model.specs.Events.{event, events, InOrder, empty, one, more, before, setSize, greatestSet}
 use Rattle.model.specs.Limits.{maxNodes, maxEdges, maxLength, maxEvents, maxSet, maxThresholds}
 use Rattle.model.specs.Network.{Network, IsNode, EndsAreNodes, edges, first, second, size}
@@ -126,22 +126,22 @@ pub lone-edge-accept : (net : Network) (edge : ℕ) → Between 1 (edges net) ed
 unfolding loneEdgeCheck
 lone-edge-accept net edge b = unless-accepts _ noEdge 0 (true-between 1 (edges net) edge (b .from) (b .to))
 
-pub edges-accepted : (net : Network) (es : List ℕ) → edgesCheck net es ≡ Accepted → (k : ℕ) → k < length es → Between 1 (edges net) (getD es k 0)
-unfolding edgesCheck
+pub edges-accepted : (net : Network) (es : List ℕ) → eventEdgesCheck net es ≡ Accepted → (k : ℕ) → k < length es → Between 1 (edges net) (getD es k 0)
+unfolding eventEdgesCheck
 edges-accepted net es e k h = between-true 1 (edges net) (getD es k 0) (good-below noEdge _ (length es) e k h)
 
-pub edges-accept : (net : Network) (es : List ℕ) → ((k : ℕ) → k < length es → Between 1 (edges net) (getD es k 0)) → edgesCheck net es ≡ Accepted
-unfolding edgesCheck
+pub edges-accept : (net : Network) (es : List ℕ) → ((k : ℕ) → k < length es → Between 1 (edges net) (getD es k 0)) → eventEdgesCheck net es ≡ Accepted
+unfolding eventEdgesCheck
 edges-accept net es b =
     below-good noEdge _ (length es) (λ k h. true-between 1 (edges net) (getD es k 0) (b k h .from) (b k h .to))
 
 -- 12: every set number is up to the limit
-pub set-numbers-accepted : (sets : List ℕ) → setsCheck sets ≡ Accepted → (k : ℕ) → k < length sets → getD sets k 0 ≤ maxSet
-unfolding setsCheck
+pub set-numbers-accepted : (sets : List ℕ) → setNumbersCheck sets ≡ Accepted → (k : ℕ) → k < length sets → getD sets k 0 ≤ maxSet
+unfolding setNumbersCheck
 set-numbers-accepted sets e k h = leb-true _ _ (good-below badSet _ (length sets) e k h)
 
-pub set-numbers-accept : (sets : List ℕ) → ((k : ℕ) → k < length sets → getD sets k 0 ≤ maxSet) → setsCheck sets ≡ Accepted
-unfolding setsCheck
+pub set-numbers-accept : (sets : List ℕ) → ((k : ℕ) → k < length sets → getD sets k 0 ≤ maxSet) → setNumbersCheck sets ≡ Accepted
+unfolding setNumbersCheck
 set-numbers-accept sets l = below-good badSet _ (length sets) (λ k h. le-leb _ _ (l k h))
 
 -- 14: the offset is not beyond its edge
@@ -153,21 +153,21 @@ pub lone-offset-accept : (net : Network) (edge offset : ℕ) → offset ≤ size
 unfolding loneOffsetCheck
 lone-offset-accept net edge offset l = unless-accepts _ beyondEdge 0 (le-leb _ _ l)
 
-pub offsets-accepted : (net : Network) (es xs : List ℕ) → offsetsCheck net es xs ≡ Accepted → (k : ℕ) → k < length es → getD xs k 0 ≤ size net (pred (getD es k 0))
-unfolding offsetsCheck
+pub offsets-accepted : (net : Network) (es xs : List ℕ) → eventOffsetsCheck net es xs ≡ Accepted → (k : ℕ) → k < length es → getD xs k 0 ≤ size net (pred (getD es k 0))
+unfolding eventOffsetsCheck
 offsets-accepted net es xs e k h = leb-true _ _ (good-below beyondEdge _ (length es) e k h)
 
-pub offsets-accept : (net : Network) (es xs : List ℕ) → ((k : ℕ) → k < length es → getD xs k 0 ≤ size net (pred (getD es k 0))) → offsetsCheck net es xs ≡ Accepted
-unfolding offsetsCheck
+pub offsets-accept : (net : Network) (es xs : List ℕ) → ((k : ℕ) → k < length es → getD xs k 0 ≤ size net (pred (getD es k 0))) → eventOffsetsCheck net es xs ≡ Accepted
+unfolding eventOffsetsCheck
 offsets-accept net es xs l = below-good beyondEdge _ (length es) (λ k h. le-leb _ _ (l k h))
 
 -- 15
-pub count-accepted : (n : ℕ) → eventsCheck n ≡ Accepted → n ≤ maxEvents
-unfolding eventsCheck
+pub count-accepted : (n : ℕ) → eventCountCheck n ≡ Accepted → n ≤ maxEvents
+unfolding eventCountCheck
 count-accepted n e = leb-true _ _ (unless-accepted _ tooManyEvents maxEvents e)
 
-pub count-accept : (n : ℕ) → n ≤ maxEvents → eventsCheck n ≡ Accepted
-unfolding eventsCheck
+pub count-accept : (n : ℕ) → n ≤ maxEvents → eventCountCheck n ≡ Accepted
+unfolding eventCountCheck
 count-accept n l = unless-accepts _ tooManyEvents maxEvents (le-leb _ _ l)
 
 -- 16: the comparison sets up to the greatest are as large as set 0

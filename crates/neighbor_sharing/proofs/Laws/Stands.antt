@@ -5,6 +5,7 @@ use mathlib.Core.Path.{_≡_, _∙_, refl, ap}
 use Prim.Native.Nat.{ℕ, _+_, _*_, _≤_, _<_}
 use native.Mathlib.Omega.{arith}
 use lib.ListN.{length, getD}
+use Rattle.model.specs.Limits.{maxEvents, maxPairs}
 use Rattle.model.specs.Counting.{sumBelow}
 use Rattle.model.specs.Location.{Side, at-first, at-second}
 use Rattle.model.proofs.Laws.Counting.{sum-next}
@@ -118,7 +119,7 @@ module _ (t : ℕ) (w : Edges) (xs ys : List ℕ) where
     pub i-in : i ≤ length xs
     pub can : (j : ℕ) → i ≤ j → j < length xs → StandsMovable t w ys (getD xs j 0) m
     pub total-is : total ≡ sumBelow i (λ k. joinedFrom t w ys (getD xs k 0))
-    pub total-few : total ≤ 8192 * i
+    pub total-few : total ≤ maxEvents * i
 
   pub none-counted : EdgesLaid w xs ys → {m : Stands} → m ≡ standsAtRest ys → Counted 0 m 0
   unfolding sumBelow
@@ -141,7 +142,7 @@ module _ (t : ℕ) (w : Edges) (xs ys : List ℕ) where
         total-few = omega (arith, so-far .total-few, laid .second-laid .few);
       }
 
-  pub all-counted : EdgesLaid w xs ys → {i : ℕ} {m : Stands} {total : ℕ} → Counted i m total → length xs ≤ i → (total ≡ sweptSum t w xs ys) × (total ≤ 67108864)
+  pub all-counted : EdgesLaid w xs ys → {i : ℕ} {m : Stands} {total : ℕ} → Counted i m total → length xs ≤ i → (total ≡ sweptSum t w xs ys) × (total ≤ maxPairs)
   unfolding sweptSum
   all-counted laid {i} so-far h =
       let end : i ≡ length xs = omega (arith, so-far .i-in) in

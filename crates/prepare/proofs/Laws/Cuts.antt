@@ -11,6 +11,7 @@ use lib.Dec.{eqb}
 use lib.ListN.{length, getD, set}
 use lib.Seq.{getD-set-same, getD-set-other}
 use borrow.Author.Tests.{eqb-true, eqb-false, eq-eqb, ne-eqb}
+use Rattle.model.specs.Limits.{maxEvents}
 use Rattle.prepare.specs.Cutting.{Cut, endsRun, Cuttable, CutTo, Startable, SetsCut}
 
 -- no run ends at a place: it is not the last, and the edge is the one before it
@@ -249,7 +250,7 @@ module _ (starts edges bounds₀ setRuns₀ : List ℕ) (n : ℕ) (asked : Start
       })
 
   module _ (r : ℕ) (bounds′ : List ℕ) (next : CutTo edges bounds runs (getD starts (s + 1) 0) r bounds′) where
-    pub few-runs : r ≤ 8192
+    pub few-runs : r ≤ maxEvents
     few-runs = omega (arith, next .cut .few, next .ends, asked .few, rw (← add-one s) at (asked .to-last (suc s) inside))
 
     pub next-set : SetsCut starts edges bounds′ (set setRuns (s + 1) r) (s + 1)

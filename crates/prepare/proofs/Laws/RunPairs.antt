@@ -12,7 +12,7 @@ use Rattle.model.proofs.Laws.Pieces.{part-length, part-at}
 use Rattle.model.specs.Counting.{sumBelow}
 use Rattle.model.specs.Distance.{code}
 use Rattle.model.specs.Events.{event, IsEvent}
-use Rattle.model.specs.Limits.{maxEvents, maxLength}
+use Rattle.model.specs.Limits.{maxLength, maxEvents, maxPairs}
 use Rattle.model.specs.Location.{Side, endNode}
 use Rattle.model.specs.Network.{Network, edges, size}
 use Rattle.model.specs.NodeDistance.{boundedDistance}
@@ -169,15 +169,15 @@ module _ {net : Network} {table es xs bounds : List ℕ} {r q t : ℕ} (w : Runs
       w .codes (getD bounds a 0) (getD bounds b 0) (omega (arith, w .begins a ha la, w .ends-in a ha la)) (omega (arith, w .begins b hb lb, w .ends-in b hb lb)) s s′
 
   -- two runs have at most the square of the greatest number of events
-  pub pairs-few : (a b : ℕ) → r ≤ a → a < q → r ≤ b → b < q → runPairs net es xs bounds t a b ≤ 67108864
+  pub pairs-few : (a b : ℕ) → r ≤ a → a < q → r ≤ b → b < q → runPairs net es xs bounds t a b ≤ maxPairs
   unfolding runPairs
   pairs-few a b ha la hb lb =
       let few-a = run-is a ha la .few in
       let few-b = run-is b hb lb .few in
       sum-small (length (partOf bounds a xs)) _ few-a (λ i. le-trans (count-at-most _ (partOf bounds b xs)) few-b)
     where
-      sum-small : (n : ℕ) (f : ℕ → ℕ) → n ≤ maxEvents → ((i : ℕ) → f i ≤ maxEvents) → sumBelow n f ≤ 67108864
-      sum-small n f h each = omega (arith, sum-below-most 8192 n f (λ i l. each i))
+      sum-small : (n : ℕ) (f : ℕ → ℕ) → n ≤ maxEvents → ((i : ℕ) → f i ≤ maxEvents) → sumBelow n f ≤ maxPairs
+      sum-small n f h each = omega (arith, sum-below-most maxEvents n f (λ i l. each i))
 
 module _ (net : Network) (es xs bounds : List ℕ) where
   sum-none : (f : ℕ → ℕ) (r : ℕ) → sumBelow (r - r) f ≡ 0

@@ -11,7 +11,7 @@ use Rattle.model.proofs.Laws.Counting.{sum-below-cong}
 use Rattle.model.specs.Counting.{sumBelow}
 use Rattle.model.specs.Envelope.{countOfSet}
 use Rattle.model.specs.Events.{event, events, setSize, setCount}
-use Rattle.model.specs.Limits.{maxEvents}
+use Rattle.model.specs.Limits.{maxEvents, maxPairs}
 use Rattle.model.specs.Network.{Network, EndsAreNodes}
 use Rattle.prepare.specs.Counts.{countRow}
 use Rattle.prepare.specs.EndTable.{EndTable}
@@ -127,11 +127,11 @@ module _ {net : Network} {sets es xs ts edges offsets bounds setRuns table : Lis
     unfolding otherPairs
     other-pairs t = omega (arith, set-total t, begins-at, ends-at, start-next sets s)
 
-    count-small : (t : ℕ) → countOfSet net sets (events es xs) t s ≤ 67108864
+    count-small : (t : ℕ) → countOfSet net sets (events es xs) t s ≤ maxPairs
     count-small t =
         let long = laid-out-length sets (events es xs) (events-long accepted p) s in
         let few : setSize sets s ≤ maxEvents = omega (arith, inside, start-next sets s, accepted .are-events .few) in
-        rw (← (set-count net sets (events es xs) t s)) (omega (arith, pairs-most net (laidOutSet sets (events es xs) s) t 8192 (omega arith)))
+        rw (← (set-count net sets (events es xs) t s)) (omega (arith, pairs-most net (laidOutSet sets (events es xs) s) t maxEvents (omega arith)))
 
     pub sum-fits : (t : ℕ) → SumFits net edges offsets bounds (from-run s) (from-run (suc s)) t
     sum-fits t =

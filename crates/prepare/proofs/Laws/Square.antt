@@ -5,6 +5,7 @@ use Prim.Native.Nat.{ℕ, suc, pred, _+_, _-_, _*_, _≤_, _<_}
 use native.Mathlib.Nat.{mul-le-mul, mul-le-mul-right, suc-mul}
 use native.Mathlib.Numerals.{sub-one}
 use native.Mathlib.Omega.{arith}
+use Rattle.model.specs.Limits.{maxNodes}
 use Rattle.model.specs.Network.{Network, IsNode}
 use Rattle.prepare.specs.EndTable.{EndTable, TableEntry}
 
@@ -19,7 +20,7 @@ pub in-square : {nodes : ℕ} {table : List ℕ} {u v : ℕ} → TableEntry node
 in-square {nodes} {u = u} {v = v} e =
     in-rows nodes nodes (u - 1) (v - 1) (omega (arith, e .u-from, e .u-to)) (omega (arith, e .v-from, e .v-to))
 
-pub square-small : {nodes : ℕ} {table : List ℕ} {u v : ℕ} → TableEntry nodes table u v → nodes * nodes ≤ 262144
+pub square-small : {nodes : ℕ} {table : List ℕ} {u v : ℕ} → TableEntry nodes table u v → nodes * nodes ≤ maxNodes * maxNodes
 square-small e = omega (arith, mul-le-mul (e .nodes-to) (e .nodes-to))
 
 -- its place by predecessors

@@ -6,6 +6,7 @@ use native.Mathlib.Decide.{ℕ-discrete}
 use native.Mathlib.Omega.{arith}
 use lib.ListN.{length, getD, set, length-set}
 use lib.Seq.{getD-set-same, getD-set-other}
+use Rattle.model.specs.Limits.{maxEvents, maxPairs}
 use Rattle.model.specs.Network.{Network}
 use Rattle.prepare.proofs.Laws.RunPairs.{ready-to, ready-from, pairs-few, earlier-none, earlier-next, all-none, all-next}
 use Rattle.prepare.specs.RunPairs.{runPairs, earlierPairs, allPairs}
@@ -54,7 +55,7 @@ pub record EarlierTo (net : Network) (es xs bounds ts : List ℕ) (r a : ℕ) (o
   pub high : b ≤ a
   pub long : length new ≡ length old
   pub is : (k : ℕ) → k < length ts → getD new k 0 ≡ getD old k 0 + earlierPairs net es xs bounds (getD ts k 0) r a (b - r)
-  pub few : (k : ℕ) → k < length ts → getD new k 0 ≤ getD old k 0 + 67108864 * b
+  pub few : (k : ℕ) → k < length ts → getD new k 0 ≤ getD old k 0 + maxPairs * b
 
 -- the runs from r up to before a
 pub record AllTo (net : Network) (es xs bounds ts : List ℕ) (r q a : ℕ) (beside₀ earlier₀ beside earlier : List ℕ) : Type 0 where
@@ -63,8 +64,8 @@ pub record AllTo (net : Network) (es xs bounds ts : List ℕ) (r q a : ℕ) (bes
   pub beside-long : length beside ≡ length beside₀
   pub earlier-long : length earlier ≡ length earlier₀
   pub is : (k : ℕ) → k < length ts → getD beside k 0 + 2 * getD earlier k 0 ≡ allPairs net es xs bounds (getD ts k 0) r (a - r)
-  pub beside-few : (k : ℕ) → k < length ts → getD beside k 0 ≤ 67108864 * a
-  pub earlier-few : (k : ℕ) → k < length ts → getD earlier k 0 ≤ 549755813888 * a
+  pub beside-few : (k : ℕ) → k < length ts → getD beside k 0 ≤ maxPairs * a
+  pub earlier-few : (k : ℕ) → k < length ts → getD earlier k 0 ≤ (maxEvents * maxPairs) * a
 
 module _ {net : Network} {table es xs bounds ts : List ℕ} {r q : ℕ} (w : ReadyAt net table es xs bounds ts r q) where
   pub earlier-begins : (a : ℕ) (old : List ℕ) → r ≤ a → EarlierTo net es xs bounds ts r a old r old
@@ -116,7 +117,7 @@ module _ {net : Network} {table es xs bounds ts : List ℕ} {r q : ℕ} (w : Rea
       }
 
   module _ {a : ℕ} {beside₀ earlier₀ beside earlier : List ℕ} (so-far : AllTo net es xs bounds ts r q a beside₀ earlier₀ beside earlier) where
-    pub beside-room : (limit : ℕ) → 549755813888 ≤ limit → UpTo (length ts) 0 beside₀ → UpTo (length ts) limit beside
+    pub beside-room : (limit : ℕ) → maxEvents * maxPairs ≤ limit → UpTo (length ts) 0 beside₀ → UpTo (length ts) limit beside
     beside-room limit h up =
         record {
           long = omega (arith, up .long, so-far .beside-long);

@@ -10,7 +10,7 @@ use native.Mathlib.Nat.{le-div-iff-mul-le, mul-comm, lt-of-not-le, not-le-of-lt}
 use Rattle.model.proofs.Laws.CheckParts.{lists-first}
 use Rattle.model.proofs.Laws.Checks.{SetsAccepted, ThresholdsAccepted, sets-accepted, thresholds-accepted}
 use Rattle.model.proofs.Laws.Refusal.{or-else-next, or-else-refused, or-else-assoc, two-or-accepted, unless-accepts, unless-refuses, unless-accepted, both-accepted}
-use Rattle.model.specs.Checks.{sameLength, eventLists, networkLists, setLists, setsOverNetworkCheck, networkValues, setsCheck, eventValues, equalSetsCheck, thresholdsCheck}
+use Rattle.model.specs.Checks.{sameLength, eventLists, networkLists, setLists, setsOverNetworkCheck, networkValues, setNumbersCheck, eventValues, equalSetsCheck, thresholdsCheck}
 use Rattle.model.specs.Events.{setCount}
 use Rattle.model.specs.Network.{Network}
 use Rattle.model.specs.Refusal.{orElse, unless, listsDiffer}
@@ -44,7 +44,7 @@ module _ (net : Network) (sets es xs ts : List ℕ) (room : ℕ) where
   unfolding countsCheck setsOverNetworkCheck
   with-room e =
       let roomy = or-else-next (orElse (networkValues Accepted net)
-      (orElse (setsCheck sets) (orElse (eventValues net es xs) (orElse (equalSetsCheck sets) (thresholdsCheck ts))))) (unless-accepts (leb (setCount sets * length ts) room) listsDiffer 0 e) in
+      (orElse (setNumbersCheck sets) (orElse (eventValues net es xs) (orElse (equalSetsCheck sets) (thresholdsCheck ts))))) (unless-accepts (leb (setCount sets * length ts) room) listsDiffer 0 e) in
       simp (roomy, or-else-assoc)
 
   -- accepted: so are the sets and the thresholds, and there is room

@@ -9,7 +9,7 @@ use lib.Dec.{leb}
 use lib.ListN.{length, getD, length-append, length-map}
 use Rattle.model.proofs.Laws.Refusal.{both-accepted, or-else-next, below-good, unless-accepts}
 use Rattle.model.proofs.Laws.CheckParts.{same-length-accepts}
-use Rattle.model.specs.Checks.{networkCheck, networkLists, networkValues, setLists, eventLists, setsCheck, edgesCheck, offsetsCheck, eventsCheck, eventValues, equalSetsCheck, setsOverNetworkCheck}
+use Rattle.model.specs.Checks.{networkCheck, networkLists, networkValues, setLists, eventLists, setNumbersCheck, eventEdgesCheck, eventOffsetsCheck, eventCountCheck, eventValues, equalSetsCheck, setsOverNetworkCheck}
 use Rattle.model.specs.Limits.{maxSet, maxEvents}
 use Rattle.model.specs.Network.{Network, edges, size}
 use Rattle.model.specs.Refusal.{orElse, isBetween, badSet, noEdge, beyondEdge, tooManyEvents}
@@ -69,25 +69,25 @@ read-good net lines all e = by (readLines (eventStep net) 1 before-header lines)
 -- The checks of lists, of the rows' three lists.
 module _ (net : Network) (all : List Row) (g : RowsGood net all) where
   -- 12
-  sets-pass : setsCheck (map (λ r. r .set) all) ≡ Accepted
-  unfolding setsCheck
+  sets-pass : setNumbersCheck (map (λ r. r .set) all) ≡ Accepted
+  unfolding setNumbersCheck
   sets-pass = below-good badSet _ _ (λ k h. rw (at-index (λ r. r .set) (row 0 0 0) all refl k) (g .each k (omega (arith, length-map all (λ (r : Row). r .set))) .set-good))
 
   -- 13
-  edges-pass : edgesCheck net (map (λ r. r .edge) all) ≡ Accepted
-  unfolding edgesCheck
+  edges-pass : eventEdgesCheck net (map (λ r. r .edge) all) ≡ Accepted
+  unfolding eventEdgesCheck
   edges-pass = below-good noEdge _ _ (λ k h. rw (at-index (λ r. r .edge) (row 0 0 0) all refl k) (g .each k (omega (arith, length-map all (λ (r : Row). r .edge))) .edge-good))
 
   -- 14
-  offsets-pass : offsetsCheck net (map (λ r. r .edge) all) (map (λ r. r .offset) all) ≡ Accepted
-  unfolding offsetsCheck
+  offsets-pass : eventOffsetsCheck net (map (λ r. r .edge) all) (map (λ r. r .offset) all) ≡ Accepted
+  unfolding eventOffsetsCheck
   offsets-pass =
       below-good beyondEdge _ _
       (λ k h. rw (at-index (λ r. r .offset) (row 0 0 0) all refl k, at-index (λ r. r .edge) (row 0 0 0) all refl k) (g .each k (omega (arith, length-map all (λ (r : Row). r .edge))) .offset-good))
 
   -- 15
-  count-passes : eventsCheck (length (map (λ r. r .edge) all)) ≡ Accepted
-  unfolding eventsCheck
+  count-passes : eventCountCheck (length (map (λ r. r .edge) all)) ≡ Accepted
+  unfolding eventCountCheck
   count-passes = let few : length (map (λ r. r .edge) all) ≤ maxEvents = omega (arith, g .few, length-map all (λ (r : Row). r .edge)) in
       unless-accepts _ tooManyEvents maxEvents (le-leb _ _ few)
 

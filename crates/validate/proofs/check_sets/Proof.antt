@@ -2,7 +2,7 @@ use mathlib.Core.Path.{sym, _∙_}
 use borrow.Author.Needs.{needs}
 use Rattle.model.proofs.Laws.CheckParts.{lists-accepted, set-lists-accepted}
 use Rattle.model.proofs.Laws.Refusal.{stops-here, goes-on}
-use Rattle.model.specs.Checks.{setsOverNetworkCheck, networkLists, setLists, eventLists, eventValues, edgesCheck, offsetsCheck}
+use Rattle.model.specs.Checks.{setsOverNetworkCheck, networkLists, setLists, eventLists, eventValues, eventEdgesCheck, eventOffsetsCheck}
 use Rattle.validate.proofs.check_sets.Statement.{statement}
 use Rattle.validate.proofs.check_sets.Tie as tie
 
@@ -13,7 +13,7 @@ enum-told : tie.Need-enum-told
 enum-told c = search needs
 
 returns : tie.Need-returns
-unfolding setsOverNetworkCheck networkLists setLists eventLists eventValues edgesCheck offsetsCheck
+unfolding setsOverNetworkCheck networkLists setLists eventLists eventValues eventEdgesCheck eventOffsetsCheck
 returns c = search (stops-here, goes-on) depth 9
 
 enum-told-2 : tie.Need-enum-told-2
@@ -26,7 +26,7 @@ enum-told-3 : tie.Need-enum-told-3
 enum-told-3 c = search needs
 
 returns-2 : tie.Need-returns-2
-unfolding setsOverNetworkCheck networkLists setLists eventLists eventValues edgesCheck offsetsCheck
+unfolding setsOverNetworkCheck networkLists setLists eventLists eventValues eventEdgesCheck eventOffsetsCheck
 returns-2 c = search (stops-here, goes-on) depth 9
 
 enum-told-4 : tie.Need-enum-told-4
@@ -39,7 +39,7 @@ enum-told-5 : tie.Need-enum-told-5
 enum-told-5 c = search needs
 
 returns-3 : tie.Need-returns-3
-unfolding setsOverNetworkCheck networkLists setLists eventLists eventValues edgesCheck offsetsCheck
+unfolding setsOverNetworkCheck networkLists setLists eventLists eventValues eventEdgesCheck eventOffsetsCheck
 returns-3 c = search (stops-here, goes-on) depth 9
 
 enum-told-6 : tie.Need-enum-told-6
@@ -49,7 +49,7 @@ check-values-requires-2 : tie.Need-check-values-requires-2
 check-values-requires-2 c κs = set-lists-accepted _ _ _ (sym (c .before .before .before .before .before .check-lists2 .ensures) ∙ c .before .before .before .enum-told4 .given .1) .1
 
 returns-4 : tie.Need-returns-4
-unfolding setsOverNetworkCheck networkLists setLists eventLists eventValues edgesCheck offsetsCheck
+unfolding setsOverNetworkCheck networkLists setLists eventLists eventValues eventEdgesCheck eventOffsetsCheck
 returns-4 c = search (stops-here, goes-on) depth 9
 
 pub check-sets-spec : {M : Type 1} → statement M

@@ -7,13 +7,14 @@ use lib.ListN.{length, getD}
 use Rattle.model.specs.Counting.{sumBelow}
 use Rattle.count_augmentation.specs.Pairs.{reachedBy, reachedPairs}
 use Rattle.model.proofs.Laws.Counting.{sum-next}
+use Rattle.model.specs.Limits.{maxEvents, maxPairs}
 use Rattle.count_augmentation.proofs.Laws.Pairs.{no-pairs, all-pairs}
 use Rattle.count_augmentation.proofs.pairs.count_run.Statement.{statement}
 use Rattle.count_augmentation.proofs.pairs.count_run.Tie as tie
 
 abbrev Inv-loop : tie.InvT-loop
 Inv-loop g threshold from-offsets offsets near-first near-second total₀ i₀ total i =
-    (i ≤ length from-offsets) × (total ≡ sumBelow i (λ k. reachedBy g threshold (getD from-offsets k 0) offsets)) × (total ≤ 8192 * i)
+    (i ≤ length from-offsets) × (total ≡ sumBelow i (λ k. reachedBy g threshold (getD from-offsets k 0) offsets)) × (total ≤ maxEvents * i)
 
 abbrev μ-loop : tie.MeasureT-loop
 μ-loop g threshold from-offsets offsets near-first near-second total₀ i₀ total i = length from-offsets - i
@@ -25,7 +26,7 @@ returns : tie.Need-returns Inv-loop μ-loop
 returns c = (no-pairs _ _ _ _ (c .before .is-beyond .ensures (c .if1 .taken) _ (omega arith)), omega arith)
 
 -- every two events are few enough
-product-small : (c : tie.Start Inv-loop μ-loop) → length (c .args .from-offsets .now) * length (c .args .offsets .now) ≤ 67108864
+product-small : (c : tie.Start Inv-loop μ-loop) → length (c .args .from-offsets .now) * length (c .args .offsets .now) ≤ maxPairs
 product-small c = omega (arith, mul-le-mul (c .pre .few) (c .pre .run .few))
 
 is-whole-requires : tie.Need-is-whole-requires Inv-loop μ-loop

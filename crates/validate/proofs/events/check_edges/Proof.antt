@@ -5,7 +5,7 @@ use borrow.Author.Needs.{needs}
 use borrow.Author.Tests.{not-true, not-false}
 use lib.ListN.{length, getD}
 use Rattle.model.proofs.Laws.Refusal.{Scanned, scan-begins, scan-goes-on, scan-stops, scan-ends}
-use Rattle.model.specs.Checks.{edgesCheck}
+use Rattle.model.specs.Checks.{eventEdgesCheck}
 use Rattle.model.specs.Refusal.{isBetween, firstBad, noEdge}
 use Rattle.validate.proofs.events.check_edges.Statement.{statement}
 use Rattle.validate.proofs.events.check_edges.Tie as tie
@@ -29,7 +29,7 @@ names-one-requires : tie.Need-names-one-requires Inv-loop μ-loop
 names-one-requires c κs = search needs
 
 returns : tie.Need-returns Inv-loop μ-loop
-unfolding edgesCheck firstBad
+unfolding eventEdgesCheck firstBad
 returns c = sym (scan-stops _ _ (c .before .before .before .before .loop .inv) (omega arith) (sym (c .before .names-one .ensures) ∙ not-true _ (c .if1 .taken)))
 
 add-k : tie.Need-add-k Inv-loop μ-loop
@@ -42,7 +42,7 @@ loop-again : tie.Need-loop-again Inv-loop μ-loop
 loop-again c = scan-goes-on _ _ (c .before .before .before .before .loop .inv) (omega arith) (sym (c .before .names-one .ensures) ∙ not-false _ (c .if1 .left))
 
 returns-2 : tie.Need-returns-2 Inv-loop μ-loop
-unfolding edgesCheck firstBad
+unfolding eventEdgesCheck firstBad
 returns-2 c = sym (scan-ends _ _ (c .before .loop .inv) (omega arith))
 
 pub check-edges-spec : {M : Type 1} → statement M

@@ -6,7 +6,7 @@ use borrow.Author.Tests.{not-true, not-false}
 use lib.Dec.{leb}
 use lib.ListN.{length, getD}
 use Rattle.model.proofs.Laws.Refusal.{Scanned, scan-begins, scan-goes-on, scan-stops, scan-ends}
-use Rattle.model.specs.Checks.{offsetsCheck}
+use Rattle.model.specs.Checks.{eventOffsetsCheck}
 use Rattle.model.specs.Refusal.{firstBad, beyondEdge}
 use Rattle.validate.proofs.events.check_offsets.Statement.{statement}
 use Rattle.validate.proofs.events.check_offsets.Tie as tie
@@ -36,7 +36,7 @@ is-on-edge-requires : tie.Need-is-on-edge-requires Inv-loop μ-loop
 is-on-edge-requires c κs = c .before .before .before .before .before .before .before .pre .1 (c .before .before .before .loop .k) (omega arith)
 
 returns : tie.Need-returns Inv-loop μ-loop
-unfolding offsetsCheck firstBad
+unfolding eventOffsetsCheck firstBad
 returns c = sym (scan-stops _ _ (c .before .before .before .before .before .loop .inv) (omega arith) (sym (c .before .is-on-edge .ensures) ∙ not-true _ (c .if1 .taken)))
 
 add-k : tie.Need-add-k Inv-loop μ-loop
@@ -49,7 +49,7 @@ loop-again : tie.Need-loop-again Inv-loop μ-loop
 loop-again c = scan-goes-on _ _ (c .before .before .before .before .before .loop .inv) (omega arith) (sym (c .before .is-on-edge .ensures) ∙ not-false _ (c .if1 .left))
 
 returns-2 : tie.Need-returns-2 Inv-loop μ-loop
-unfolding offsetsCheck firstBad
+unfolding eventOffsetsCheck firstBad
 returns-2 c = sym (scan-ends _ _ (c .before .loop .inv) (omega arith))
 
 pub check-offsets-spec : {M : Type 1} → statement M

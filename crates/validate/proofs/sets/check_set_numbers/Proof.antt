@@ -6,7 +6,7 @@ use borrow.Author.Tests.{not-true, not-false}
 use lib.Dec.{leb}
 use lib.ListN.{length, getD}
 use Rattle.model.proofs.Laws.Refusal.{Scanned, scan-begins, scan-goes-on, scan-stops, scan-ends}
-use Rattle.model.specs.Checks.{setsCheck}
+use Rattle.model.specs.Checks.{setNumbersCheck}
 use Rattle.model.specs.Limits.{maxSet}
 use Rattle.model.specs.Refusal.{firstBad, badSet}
 use Rattle.validate.proofs.sets.check_set_numbers.Statement.{statement}
@@ -31,7 +31,7 @@ is-set-requires : tie.Need-is-set-requires Inv-loop μ-loop
 is-set-requires c κs = search needs
 
 returns : tie.Need-returns Inv-loop μ-loop
-unfolding setsCheck firstBad
+unfolding setNumbersCheck firstBad
 returns c = sym (scan-stops _ _ (c .before .before .before .before .loop .inv) (omega arith) (sym (c .before .is-set .ensures) ∙ not-true _ (c .if1 .taken)))
 
 add-k : tie.Need-add-k Inv-loop μ-loop
@@ -44,7 +44,7 @@ loop-again : tie.Need-loop-again Inv-loop μ-loop
 loop-again c = scan-goes-on _ _ (c .before .before .before .before .loop .inv) (omega arith) (sym (c .before .is-set .ensures) ∙ not-false _ (c .if1 .left))
 
 returns-2 : tie.Need-returns-2 Inv-loop μ-loop
-unfolding setsCheck firstBad
+unfolding setNumbersCheck firstBad
 returns-2 c = sym (scan-ends _ _ (c .before .loop .inv) (omega arith))
 
 pub check-set-numbers-spec : {M : Type 1} → statement M

@@ -1,5 +1,5 @@
 use borrow.Author.Tests.{lt-leb, le-leb}
-use Rattle.model.specs.Checks.{eventsCheck}
+use Rattle.model.specs.Checks.{eventCountCheck}
 use Rattle.model.specs.Made.{eventSetOf, madeBy}
 use Rattle.model.specs.Refusal.{unless}
 use borrow.Author.Needs.{needs}
@@ -9,11 +9,11 @@ use Rattle.model.proofs.event_set.EventSet.new.Reads as reads
 use Rattle.model.proofs.event_set.EventSet.new.Lts as lts
 
 returns : tie.Need-returns
-unfolding eventSetOf madeBy eventsCheck unless
+unfolding eventSetOf madeBy eventCountCheck unless
 returns c = simp (le-leb _ _ (c .if1 .taken))
 
 returns-2 : tie.Need-returns-2
-unfolding eventSetOf madeBy eventsCheck unless
+unfolding eventSetOf madeBy eventCountCheck unless
 returns-2 c = simp (lt-leb _ _ (c .if1 .left))
 
 pub new-spec : {M : Type 1} → statement M
