@@ -1,7 +1,8 @@
 //! A plain second implementation of the network K-function counts.
 //!
-//! It is written from the scope paper alone and proves nothing. It is here to
-//! compare the proved library with, and to time it against.
+//! It is written from the requirements and proves nothing (the shortcuts of its
+//! count augmentation are those of the proved one). It is here to compare the
+//! proved library with, and to time it against.
 
 #![forbid(unsafe_code)]
 

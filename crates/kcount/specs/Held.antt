@@ -1,4 +1,4 @@
--- The bytes of the report stand in front of a list, r of them.
+-- The first r bytes of a list are those of the report.
 use mathlib.Core.List.{List}
 use mathlib.Core.Path.{_≡_}
 use Prim.Native.Nat.{ℕ, _≤_}

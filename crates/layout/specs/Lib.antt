@@ -1,4 +1,4 @@
--- Layout is the public promise; Sorting and Keys are cited by inner functions alone.
+-- Layout and Stretch are the public promises; Sorting and Keys are cited by inner functions alone.
 pub mod Layout
 pub mod Stretch
 pub mod Sorting

@@ -22,7 +22,7 @@ unfoldable pub countIf : {A : Type 0} → (A → Bool) → List A → ℕ
 countIf test [] = 0
 countIf test (x ∷ xs) = one-if (test x) + countIf test xs
 
--- of n places the first p, the last q, and those from below on up to before upto: what overlaps counts once
+-- of n places the first p, the last q, and those from below on up to before upto, which is no less: what overlaps counts once
 abbrev pub covered : ℕ → ℕ → ℕ → ℕ → ℕ → ℕ
 covered n p q below upto = n - (min below (n - q) - p) - ((n - q) - max upto p)
 

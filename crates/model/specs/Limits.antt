@@ -1,4 +1,5 @@
--- The limits of document 01, each written once. The types of src/ that carry them are tied to these by their promises.
+-- The limits of networks, events and thresholds (01), each written once; that of a text stands in text/specs/Reading. The types of
+-- src/ that carry them are tied to these by their promises.
 use Prim.Native.Nat.{ℕ, _*_}
 
 abbrev pub maxNodes : ℕ

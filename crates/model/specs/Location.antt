@@ -24,7 +24,7 @@ pub data IsLocation (net : Network) : Location → Type 0 where
   a-node : {v : ℕ} → IsNode net v → IsLocation net (node v)
   an-inside : {i x : ℕ} → i < edges net → 1 ≤ x → x < size net i → IsLocation net (inside i x)
 
--- a node where a walk may leave a location, and the gap: the metres from the location to it
+-- a node where a walk may leave a location, and the gap: the metres to it along the location's own edge
 pub record End : Type 0 where
   pub at : ℕ
   pub gap : ℕ

@@ -30,7 +30,7 @@ pub fn greater(a: u64, b: u64) -> u64
     if a < b { b } else { a }
 }
 
-// Of so many places the first, the last and a window, what overlaps counted once.
+// Of so many places the first, the last and a window (from below on up to before upto, which is no less), what overlaps counted once.
 pub fn covered(places: u64, first: u64, last: u64, below: u64, upto: u64) -> u64
     ensures { λ r. ⌜ r ≡ covered places first last below upto ⌝ }
 {

@@ -11,8 +11,8 @@ ghost use mathlib.Core.Path.{_≡_};
 ghost use Rattle.neighbor_sharing.specs.Stands.{routeStand, standsAt, standsAtRest, RouteMovable, StandsMovable};
 ghost use Rattle.neighbor_sharing.specs.Sweeping.{sideOf, standing, Movable};
 
-// The positions (01) of the four routes' cursors, from the first edge's ends to the second's, and of the window's two. A route beyond
-// the bound has no cursor, nor has the window on two edges: counted as 0.
+// The positions (01) of the four routes' cursors, from the first edge's ends to the second's, and of the window's two. In the
+// place of a route beyond the bound is a cursor that reaches nothing, and on two edges there is no window: both count 0 at every event.
 pub struct Stands {
     pub ff: usize,
     pub fs: usize,

@@ -30,7 +30,8 @@ lowest (Refused n p) (Refused m q) = cond (ltb n m || (eqb n m && leb p q)) (Ref
 unfoldable pub onEdge : List ℕ → List ℕ → ℕ → ℕ → ℕ
 onEdge sets es s e = countIf (λ f. eqb f e) (having s sets es)
 
--- 2: room for six cursors' positions at each event on the first edge, and for their moves
+-- 2: sets and edges of the events differ in length, or there is no room for six cursors' positions at each event on the first edge
+-- and for their moves
 unfoldable pub cursorRoom : List ℕ → List ℕ → ℕ → ℕ → List ℕ → List ℕ → Check
 cursorRoom sets es s e ps ms =
     orElse (sameLength sets es) (orElse (roomCheck (6 * onEdge sets es s e) ps) (roomCheck 6 ms))
@@ -56,8 +57,9 @@ setOffsets sets es xs s = map (λ e. e .offset) (laidOutSet sets (events es xs) 
 pub record AllJoined (net : Network) (sets es xs ts counts : List ℕ) : Type 0 where
   pub joined : (u k : ℕ) → u < setCount sets → k < length ts → CountsJoined net (having u sets (events es xs)) (getD ts k 0) (getD counts (u * length ts + k) 0)
 
--- the promise. The lists: three of counts, one to a method; the positions of the cursors of set s at threshold t, any number, on
--- edges e and f, from distances bounded by the greatest of the thresholds; and their moves. A position or a sum of moves stands in
+-- the promise. The lists: three of counts, one to a method; the positions of the cursors of set s at threshold t on edges e and
+-- f, from distances bounded by the greatest of the thresholds; and their moves. (t need not be one of the thresholds; above the
+-- greatest of them a route that t would admit may be beyond the bound and have no cursor.) A position or a sum of moves stands in
 -- its list as one more, and 0 stands for 'no cursor'
 module _ (net : Network) (sets es xs ts : List ℕ) (s t e f : ℕ) where
   pub record PairCountsAnswered (ranged augmented shared ps ms : List ℕ) (r : Check) (ranged′ augmented′ shared′ ps′ ms′ : List ℕ) : Type 0 where

@@ -48,7 +48,7 @@ rows-begin lengths bytes sets edges offsets l =
     record { few = omega arith; level = l; progress = begins csvLines (eventStep (withLengths lengths)) 2 (rows []) bytes }
 
 -- A row, from what a line's step answers.
-module _ {lengths bytes sets edges offsets : List ℕ} {at count : ℕ} (t : RowsSoFar lengths bytes sets edges offsets at count) {end onward : ℕ} (h : at < length bytes) (n : NextLine csvLines (rest bytes at) end onward) {r : LineRead} {sets′ edges′ offsets′ : List ℕ} (e : eventStep (withLengths lengths) (rows (rowsIn count sets edges offsets)) (take end (rest bytes at)) ≡ rowsAfter r count sets′ edges′ offsets′) where
+module _ {lengths bytes sets edges offsets : List ℕ} {at count : ℕ} (t : RowsSoFar lengths bytes sets edges offsets at count) {end onward : ℕ} (h : at < length bytes) (n : NextLine csvLines 2 (rest bytes at) end onward) {r : LineRead} {sets′ edges′ offsets′ : List ℕ} (e : eventStep (withLengths lengths) (rows (rowsIn count sets edges offsets)) (take end (rest bytes at)) ≡ rowsAfter r count sets′ edges′ offsets′) where
   -- it is taken
   pub one-taken : r ≡ line-answer.Taken → Level maxEvents sets′ edges′ offsets′ → RowsSoFar lengths bytes sets′ edges′ offsets′ (at + onward) (count + 1)
   unfolding rowsAfter eventStep

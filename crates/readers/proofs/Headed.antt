@@ -26,7 +26,7 @@ unfolding csvLines isHeaded
 no-text header [] e = record { there = λ n w. absurd (let z : _≡_ {A = ℕ} 0 1 = cc in omega arith); missing = λ w. refl }
 no-text header (b ∷ bytes) e = absurd (omega arith)
 
-module _ (header bytes : List ℕ) {end onward : ℕ} (some : 1 ≤ length bytes) (n : NextLine csvLines bytes end onward) where
+module _ (header bytes : List ℕ) {end onward : ℕ} (some : 1 ≤ length bytes) (n : NextLine csvLines 2 bytes end onward) where
   -- whether the first line is the header
   headed-is : isHeaded header (csvLines bytes) ≡ sameBytes (take end bytes) header
   unfolding isHeaded

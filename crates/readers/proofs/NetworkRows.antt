@@ -78,7 +78,7 @@ lines-begin bytes firsts seconds lengths l =
     }
 
 -- A line, from what its step answers.
-module _ {bytes : List ℕ} {s : Seen} {firsts seconds lengths : List ℕ} {at place : ℕ} (t : LinesSoFar bytes s firsts seconds lengths at place) {end onward : ℕ} (h : at < length bytes) (n : NextLine feedLines (rest bytes at) end onward) {r : ArcStep} {firsts′ seconds′ lengths′ : List ℕ} (k : LineTaken s (networkLine (take end (rest bytes at))) firsts seconds lengths r firsts′ seconds′ lengths′) where
+module _ {bytes : List ℕ} {s : Seen} {firsts seconds lengths : List ℕ} {at place : ℕ} (t : LinesSoFar bytes s firsts seconds lengths at place) {end onward : ℕ} (h : at < length bytes) (n : NextLine feedLines 1 (rest bytes at) end onward) {r : ArcStep} {firsts′ seconds′ lengths′ : List ℕ} (k : LineTaken s (networkLine (take end (rest bytes at))) firsts seconds lengths r firsts′ seconds′ lengths′) where
   -- it is taken
   pub one-taken : {s′ : Seen} → r ≡ arc-answer.Taken s′ → Level maxEdges firsts′ seconds′ lengths′ → LinesSoFar bytes s′ firsts′ seconds′ lengths′ (at + onward) (place + 1)
   unfolding stepIn

@@ -41,7 +41,7 @@ module _ {State : Type 0} (lines : List ℕ → List (List ℕ)) (step : State �
 -- From where the loop stands.
 module _ {State : Type 0} {lines : List ℕ → List (List ℕ)} {step : State → List ℕ → Step State} {first : ℕ} {start : State} {text : List ℕ} {s : State} {at place : ℕ} (p : Progress lines step first start text s at place) where
   -- A line that begins at a byte of the text.
-  module _ {end onward : ℕ} (h : at < length text) (n : NextLine lines (rest text at) end onward) where
+  module _ {width end onward : ℕ} (h : at < length text) (n : NextLine lines width (rest text at) end onward) where
     some-left : 1 ≤ length (rest text at)
     some-left = omega (arith, ap length (rest-is text at), length-drop at text)
 

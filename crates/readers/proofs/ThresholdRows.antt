@@ -46,7 +46,7 @@ pub rows-begin : (rows list : List ℕ) → maxThresholds ≤ length list → Th
 rows-begin rows list room = record { few = omega arith; room = room; progress = begins csvLines thresholdStep 2 (values []) rows }
 
 -- A row, from what a line's step answers.
-module _ {rows list list′ : List ℕ} {at count end onward : ℕ} {r : LineRead} (t : ThresholdsSoFar rows list at count) (h : at < length rows) (n : NextLine csvLines (rest rows at) end onward) (e : thresholdStep (values (take count list)) (take end (rest rows at)) ≡ thresholdsAfter r count list′) where
+module _ {rows list list′ : List ℕ} {at count end onward : ℕ} {r : LineRead} (t : ThresholdsSoFar rows list at count) (h : at < length rows) (n : NextLine csvLines 2 (rest rows at) end onward) (e : thresholdStep (values (take count list)) (take end (rest rows at)) ≡ thresholdsAfter r count list′) where
   -- it is taken
   pub row-taken : r ≡ line-answer.Taken → length list′ ≡ length list → ThresholdsSoFar rows list′ (at + onward) (count + 1)
   unfolding thresholdsAfter thresholdStep

@@ -33,7 +33,7 @@ tableCheck net sets es xs ts first second third =
     (orElse (roomCheck (length ts) second)
     (orElse (roomCheck (length ts) third) (orElse (setsOverNetworkCheck net sets es xs) (thresholdsCheck ts))))
 
--- a refusal's number and place; otherwise whether there are comparison sets, so many
+-- a refusal's number and place; otherwise whether there are comparison sets, of which the number is told
 unfoldable pub tableAnswer : Check → ℕ → Table
 tableAnswer (check.Refused number place) comparisons = Refused number place
 tableAnswer check.Accepted zero = Observed

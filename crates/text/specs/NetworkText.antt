@@ -65,7 +65,7 @@ takeArc nodes arcs before b =
     (require (eqb (length before % 2) 0 || turnsLast before b) notTurned
     (require (ltb (length before) arcs) wrongArcs (taken (reading nodes arcs (before ++ (b ∷ []))))))))
 
--- 6: N, and M even and twice a number of edges
+-- 6: N is within the limit of nodes, and M is even and from 2 to twice the limit of edges
 unfoldable pub takeProblem : ℕ → ℕ → Step NetworkState
 takeProblem nodes arcs =
     require (isBetween 1 maxNodes nodes && (eqb (arcs % 2) 0 && isBetween 2 (2 * maxEdges) arcs)) badSizes

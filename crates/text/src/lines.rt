@@ -12,7 +12,7 @@ pub struct Line {
 
 // Lines ended by a line feed.
 pub fn feed_line(rest: &[u8]) -> Line
-    ensures { λ r. ⌜ NextLine feedLines (now (rest .entry)) (r .end) (r .next) ⌝ }
+    ensures { λ r. ⌜ NextLine feedLines 1 (now (rest .entry)) (r .end) (r .next) ⌝ }
 {
     let end = first_at(b'\n', rest);
     if rest.len() <= end {
@@ -23,7 +23,7 @@ pub fn feed_line(rest: &[u8]) -> Line
 
 // Lines ended by a carriage return and a line feed.
 pub fn csv_line(rest: &[u8]) -> Line
-    ensures { λ r. ⌜ NextLine csvLines (now (rest .entry)) (r .end) (r .next) ⌝ }
+    ensures { λ r. ⌜ NextLine csvLines 2 (now (rest .entry)) (r .end) (r .next) ⌝ }
 {
     let end = pair_at(b'\r', b'\n', rest);
     if rest.len() <= end {

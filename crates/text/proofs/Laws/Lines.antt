@@ -44,18 +44,20 @@ csv-parted (b ∷ d ∷ bs) h = front-parted csvLines 2 b (d ∷ bs) _ (eqb b ca
 
 -- where the first line ends and the next one begins, from the place of the line end
 module _ (lines : List ℕ → List (List ℕ)) (width end : ℕ) (rest : List ℕ) (parted : 1 ≤ length rest → Parted lines width end rest) where
-  pub line-ended : 1 ≤ width → end + width ≤ length rest → NextLine lines rest end (end + width)
+  pub line-ended : 1 ≤ width → end + width ≤ length rest → NextLine lines width rest end (end + width)
   line-ended w h = record {
     parts = λ some. rw drop-drop at (parted some);
+    behind-end = omega arith;
     onward = λ some. omega arith;
     ordered = omega arith;
     inside = h;
   }
 
   -- no line end: the last line is all that is left
-  pub line-last : length rest ≤ end → end ≤ length rest → NextLine lines rest end end
+  pub line-last : length rest ≤ end → end ≤ length rest → NextLine lines width rest end end
   line-last h k = record {
     parts = λ some. parted some ∙ simp (drop-of-length-le rest h, drop-nil {A = ℕ} width);
+    behind-end = omega arith;
     onward = λ some. omega arith;
     ordered = omega arith;
     inside = k;
@@ -65,26 +67,18 @@ module _ (rest : List ℕ) (end : ℕ) (found : end ≡ firstAt lineFeed rest) w
   feed-parted-at : 1 ≤ length rest → Parted feedLines 1 end rest
   feed-parted-at some = rw found (feed-parted rest some)
 
-  pub feed-last : length rest ≤ end → NextLine feedLines rest end end
+  pub feed-last : length rest ≤ end → NextLine feedLines 1 rest end end
   feed-last h = line-last feedLines 1 end rest feed-parted-at h (rw found (first-bound lineFeed rest))
 
-  pub feed-ended : end < length rest → NextLine feedLines rest end (end + 1)
+  pub feed-ended : end < length rest → NextLine feedLines 1 rest end (end + 1)
   feed-ended h = line-ended feedLines 1 end rest feed-parted-at (omega arith) (omega arith)
 
 module _ (rest : List ℕ) (end : ℕ) (found : end ≡ pairAt carriageReturn lineFeed rest) where
   csv-parted-at : 1 ≤ length rest → Parted csvLines 2 end rest
   csv-parted-at some = rw found (csv-parted rest some)
 
-  pub csv-last : length rest ≤ end → NextLine csvLines rest end end
+  pub csv-last : length rest ≤ end → NextLine csvLines 2 rest end end
   csv-last h = line-last csvLines 2 end rest csv-parted-at h (rw found (pair-bound carriageReturn lineFeed rest))
 
-  pub csv-ended : end < length rest → NextLine csvLines rest end (end + 2)
+  pub csv-ended : end < length rest → NextLine csvLines 2 rest end (end + 2)
   csv-ended h = line-ended csvLines 2 end rest csv-parted-at (omega arith) (rw found (pair-whole carriageReturn lineFeed rest (rw found at h)))
-
--- of an empty rest both places are 0
-pub no-next : (lines : List ℕ → List (List ℕ)) (end next : ℕ) → NextLine lines [] end next → (end ≡ 0) × (next ≡ 0)
-no-next lines end next line = (omega (arith, line .ordered, line .inside), omega (arith, line .inside))
-
--- the rest behind the first line has one line less
-pub one-line-less : (lines : List ℕ → List (List ℕ)) (rest : List ℕ) (end next : ℕ) → NextLine lines rest end next → 1 ≤ length rest → length (lines rest) ≡ suc (length (lines (drop next rest)))
-one-line-less lines rest end next line some = ap length (line .parts some)
