@@ -13,6 +13,7 @@ pub mod Rows
 pub mod Sorted
 pub mod Perimeter
 pub mod PairCount
+pub mod Envelope
 pub mod Refusal
 pub mod CheckParts
 pub mod Checks
