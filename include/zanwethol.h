@@ -11,7 +11,7 @@
 /* Puts one set's reports in order by leg, then by offset. */
 void kc_lay_out(uint32_t *legs, size_t legs_len, uint32_t *offsets, size_t offsets_len, uint32_t *number, size_t *place);
 
-/* Distances from a node to every node, as far as the bound, into answers. */
+/* Distances from a node to every node, as far as the bound, into answers, which must hold one for each node. */
 void kc_distances_from(uint32_t nodes, const uint32_t *firsts, size_t firsts_len, const uint32_t *seconds,
                        size_t seconds_len, const uint32_t *lengths, size_t lengths_len, uint32_t source, uint32_t bound,
                        uint32_t *answers, size_t answers_len, uint32_t *number, size_t *place);
@@ -63,7 +63,7 @@ void kc_sharing_counts(uint32_t nodes, const uint32_t *firsts, size_t firsts_len
                        size_t answers_len, uint32_t *number, size_t *place);
 
 /* The stored numbers of a laid-out set: with each report, how many on its leg lie no farther from the leg's first end, and
-   from its second end, itself and equals included. */
+   from its second end, itself and equals included. Each list must hold one for each report. */
 void kc_augment(uint32_t nodes, const uint32_t *firsts, size_t firsts_len, const uint32_t *seconds, size_t seconds_len,
                 const uint32_t *lengths, size_t lengths_len, const uint32_t *legs, size_t legs_len,
                 const uint32_t *offsets, size_t offsets_len, uint32_t *near_first, size_t near_first_len,
@@ -80,7 +80,8 @@ void kc_cursors(uint32_t nodes, const uint32_t *firsts, size_t firsts_len, const
                 uint32_t bound, uint32_t *positions, size_t positions_len, uint32_t *moves, size_t moves_len,
                 uint32_t *number, size_t *place);
 
-/* Readers of the three texts: how many legs, reports or thresholds were read. */
+/* Readers of the three texts: how many legs, reports or thresholds were read. Lists of 1,024 legs, 8,192 reports and 64
+   thresholds always suffice. */
 size_t kc_read_network(const uint8_t *text, size_t text_len, uint32_t *firsts, size_t firsts_len, uint32_t *seconds,
                        size_t seconds_len, uint32_t *lengths, size_t lengths_len, uint32_t *nodes, uint32_t *number,
                        size_t *place);
