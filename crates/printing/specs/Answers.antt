@@ -6,7 +6,7 @@ use Prim.Native.Nat.{ℕ, zero, suc}
 use lib.Dec.{eqb, leb}
 use lib.ListN.{length, getD}
 use Rattle.model.specs.Answer.{written}
-use Rattle.model.specs.Checks.{sameLength, roomCheck}
+use Rattle.model.specs.Checks.{sameLength, roomCheck, thresholdsCheck}
 use Rattle.model.specs.Envelope.{Envelope, no-value, between}
 use Rattle.model.specs.Refusal.{orElse}
 use Rattle.model.specs.declared.check.Check.{Check}
@@ -34,12 +34,13 @@ rows comparisons ts observed lower upper k (suc n) =
 unfoldable pub tableBytes : Bool → List ℕ → List ℕ → List ℕ → List ℕ → List ℕ
 tableBytes comparisons ts observed lower upper = header ++ (lineEnd ++ rows comparisons ts observed lower upper 0 (length ts))
 
--- 2: the four lists differ in length, or the list of bytes is too short
+-- 2: the four lists differ in length, or the list of bytes is too short; then 18 and 19
 unfoldable pub tableBytesCheck : Bool → List ℕ → List ℕ → List ℕ → List ℕ → List ℕ → Check
 tableBytesCheck comparisons ts observed lower upper out =
     orElse (sameLength ts observed)
     (orElse (sameLength ts lower)
-    (orElse (sameLength ts upper) (roomCheck (length (tableBytes comparisons ts observed lower upper)) out)))
+    (orElse (sameLength ts upper)
+    (orElse (roomCheck (length (tableBytes comparisons ts observed lower upper)) out) (thresholdsCheck ts))))
 
 pub record TablePrinted (comparisons : Bool) (ts observed lower upper out : List ℕ) (r : Printed) (out′ : List ℕ) : Type 0 where
   pub answer : r ≡ printedAnswer (tableBytesCheck comparisons ts observed lower upper out) (length (tableBytes comparisons ts observed lower upper))

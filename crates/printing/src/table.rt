@@ -65,7 +65,7 @@ fn rows_fit(
     true
 }
 
-// 2: lists that differ in length, or too little room.
+// 2: lists that differ in length, or too little room; then 18 and 19.
 fn check_table(
     comparisons: bool,
     thresholds: &[u32],
@@ -99,7 +99,7 @@ fn check_table(
     ) {
         return Check::Refused(Check::LISTS_DIFFER, 0);
     }
-    Check::Accepted
+    validate::check_thresholds(thresholds)
 }
 
 // Puts least and greatest, each behind a comma, or the two commas alone.
@@ -178,8 +178,8 @@ fn put_table(
     put_rows(comparisons, thresholds, observed, lower, upper, out, start)
 }
 
-// Prints the table; without comparisons, least and greatest are empty. Refuses lists that differ in length and a list of
-// bytes that is too short (2).
+// Prints the table; without comparisons, least and greatest are empty. Refuses by 2 (lists that differ in length, or a list of
+// bytes that is too short), 18 and 19.
 pub fn print_table(
     comparisons: bool,
     thresholds: &[u32],

@@ -7,7 +7,7 @@ use native.Mathlib.Omega.{arith}
 use lib.ListN.{length, take, length-map}
 use lib.Seq.{length-take-le}
 use Rattle.model.specs.Answer.{written}
-use Rattle.model.specs.Checks.{roomCheck}
+use Rattle.model.specs.Checks.{roomCheck, thresholdsCheck}
 use Rattle.model.specs.Envelope.{observed, envelope}
 use Rattle.model.specs.Events.{events, greatestSet}
 use Rattle.model.specs.Limits.{maxThresholds}
@@ -53,10 +53,10 @@ front-of answers old new e w a = rw (← e) (front-is answers old w a)
 pub still-level : {n : ℕ} {a b c a′ b′ c′ : List ℕ} → Level n a b c → length a′ ≡ length a → length b′ ≡ length b → length c′ ≡ length c → Level n a′ b′ c′
 still-level level x y z = record { one = x ∙ level .one; two = y ∙ level .two; three = z ∙ level .three }
 
--- the bytes of a printed table
-table-bytes : (comparisons : Bool) (ts counts lower upper out : List ℕ) {bytes : List ℕ} {r : Printed} {out′ : List ℕ} → length counts ≡ length ts → length lower ≡ length ts → length upper ≡ length ts → tableBytes comparisons ts counts lower upper ≡ bytes → TablePrinted comparisons ts counts lower upper out r out′ → BytesPrinted bytes out r out′
-table-bytes comparisons ts counts lower upper out o l u e p =
-    let decided = room-decides comparisons ts counts lower upper out (sym o) (sym l) (sym u) in
+-- the bytes of a table printed for thresholds that pass
+table-bytes : (comparisons : Bool) (ts counts lower upper out : List ℕ) {bytes : List ℕ} {r : Printed} {out′ : List ℕ} → thresholdsCheck ts ≡ check.Accepted → length counts ≡ length ts → length lower ≡ length ts → length upper ≡ length ts → tableBytes comparisons ts counts lower upper ≡ bytes → TablePrinted comparisons ts counts lower upper out r out′ → BytesPrinted bytes out r out′
+table-bytes comparisons ts counts lower upper out pass o l u e p =
+    let decided = room-decides comparisons ts counts lower upper out (sym o) (sym l) (sym u) pass in
     record { answer = rw (← e, ← decided) (p .answer); after = rw (← e, ← decided) (p .after) }
 
 module _ {net : Network} {sets es xs ts o l u : List ℕ} (pass : AllPass net sets es xs ts) (level : Level maxThresholds o l u) where
@@ -92,7 +92,7 @@ module _ {net : Network} {sets es xs ts o l u : List ℕ} (pass : AllPass net se
       module _ {out : List ℕ} {r : Printed} {out′ : List ℕ} where
         pub observed-bytes : answer ≡ Observed → TablePrinted false ts (take (length ts) o′) (take (length ts) l′) (take (length ts) u′) out r out′ → BytesPrinted (countsTable net sets (events es xs) ts) out r out′
         observed-bytes told p =
-            table-bytes false ts _ _ _ out (front-long o′ (level′ .one)) (front-long l′ (level′ .two)) (front-long u′ (level′ .three))
+            table-bytes false ts _ _ _ out (pass .thresholds-pass) (front-long o′ (level′ .one)) (front-long l′ (level′ .two)) (front-long u′ (level′ .three))
             (observed-printed net sets (events es xs) ts _ _ _ (is-observed _ (sym told ∙ answer-is)) counts-front)
             p
 
@@ -101,7 +101,7 @@ module _ {net : Network} {sets es xs ts o l u : List ℕ} (pass : AllPass net se
         compared-bytes told p =
             let some = is-compared _ (sym told ∙ answer-is) in
             let valued = some-value net sets (events es xs) _ some in
-            table-bytes true ts _ _ _ out (front-long o′ (level′ .one)) (front-long l′ (level′ .two)) (front-long u′ (level′ .three))
+            table-bytes true ts _ _ _ out (pass .thresholds-pass) (front-long o′ (level′ .one)) (front-long l′ (level′ .two)) (front-long u′ (level′ .three))
             (compared-printed net sets (events es xs) ts _ _ _ _ some counts-front
             (front-of _ l l′ (ends-long (envelope net sets (events es xs)) valued (λ a b. a) ts) (answered .lower-after) accepted)
             (front-of _ u u′ (ends-long (envelope net sets (events es xs)) valued (λ a b. b) ts) (answered .upper-after) accepted))

@@ -26,8 +26,11 @@ rows-fit-requires c κs = search needs
 returns-5 : tie.Need-returns-5
 returns-5 c = no-room-for-rows _ _ _ _ _ _ (c .before .before .before .before .before .if1 .left) (c .before .before .before .before .if2 .left) (c .before .before .before .if3 .left) (c .before .before .if4 .left) (c .before .rows-fit .ensures) (not-true _ (c .if5 .taken))
 
+check-thresholds-requires : tie.Need-check-thresholds-requires
+check-thresholds-requires c κs = search needs
+
 returns-6 : tie.Need-returns-6
-returns-6 c = table-fits _ _ _ _ _ _ (c .before .before .before .before .before .if1 .left) (c .before .before .before .before .if2 .left) (c .before .before .before .if3 .left) (c .before .before .if4 .left) (c .before .rows-fit .ensures) (not-false _ (c .if5 .left))
+returns-6 c = table-fits _ _ _ _ _ _ (c .before .before .before .before .before .before .if1 .left) (c .before .before .before .before .before .if2 .left) (c .before .before .before .before .if3 .left) (c .before .before .before .if4 .left) (c .before .before .rows-fit .ensures) (not-false _ (c .before .if5 .left)) (c .check-thresholds .ensures)
 
 pub check-table-spec : {M : Type 1} → statement M
 check-table-spec =
@@ -40,4 +43,5 @@ check-table-spec =
     sub-rows-fit
     rows-fit-requires
     returns-5
+    check-thresholds-requires
     returns-6)

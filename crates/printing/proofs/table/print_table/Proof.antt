@@ -1,7 +1,8 @@
 -- What was checked is printed, or nothing is written.
 use mathlib.Core.Path.{sym, _∙_}
+use Rattle.model.proofs.Laws.Answer.{written-refused}
 use Rattle.printing.proofs.Laws.Writing.{put-written}
-use Rattle.printing.proofs.Laws.Verdict.{refusal-answer, refusal-after, bytes-answer, accepted-table}
+use Rattle.printing.proofs.Laws.Verdict.{refusal-answer, bytes-answer, accepted-table}
 use borrow.Author.Needs.{needs}
 use Rattle.printing.proofs.table.print_table.Statement.{statement}
 use Rattle.printing.proofs.table.print_table.Tie as tie
@@ -18,7 +19,7 @@ same-length c = search needs
 returns : tie.Need-returns
 returns c =
     let refused = sym (c .before .before .before .check-table .ensures) ∙ c .before .verdict .given .1 in
-    record { answer = refusal-answer _ _ _ refused; after = refusal-after _ _ _ _ refused }
+    record { answer = refusal-answer _ _ _ refused; after = written-refused _ _ refused }
 
 enum-told : tie.Need-enum-told
 enum-told c = search needs
