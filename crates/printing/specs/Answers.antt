@@ -1,9 +1,8 @@
 -- What the printing functions answer and leave in the list of bytes.
-use mathlib.Core.Bool.{Bool, true, false, cond}
+use mathlib.Core.Bool.{Bool, true, false}
 use mathlib.Core.List.{List, [], _∷_, _++_}
 use mathlib.Core.Path.{_≡_}
 use Prim.Native.Nat.{ℕ, zero, suc}
-use lib.Dec.{eqb, leb}
 use lib.ListN.{length, getD}
 use Rattle.model.specs.Answer.{written}
 use Rattle.model.specs.Checks.{sameLength, roomCheck, thresholdsCheck}

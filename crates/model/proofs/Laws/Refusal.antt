@@ -44,6 +44,12 @@ both-accepted (Refused n p) b e = not-accepted e
 pub both-accept : {a b : Check} → a ≡ Accepted → b ≡ Accepted → orElse a b ≡ Accepted
 both-accept {a} {b} ha hb = or-else-next b ha ∙ hb
 
+-- a check that accepts changes nothing behind another
+pub or-else-accepted : (a : Check) → orElse a Accepted ≡ a
+unfolding orElse
+or-else-accepted Accepted = refl
+or-else-accepted (Refused n p) = refl
+
 -- three checks may be joined from either end
 pub or-else-assoc : (a b c : Check) → orElse (orElse a b) c ≡ orElse a (orElse b c)
 unfolding orElse

@@ -8,7 +8,7 @@ use borrow.Author.Tests.{le-leb, lt-leb, leb-true, eq-eqb, ne-eqb}
 use lib.Dec.{eqb, leb}
 use lib.ListN.{length}
 use Rattle.model.proofs.Laws.CheckParts.{lists-first}
-use Rattle.model.proofs.Laws.Refusal.{or-else-next, both-accepted, both-accept, both-true, unless-accepted, unless-accepts}
+use Rattle.model.proofs.Laws.Refusal.{or-else-next, or-else-accepted, both-accepted, both-accept, both-true, unless-accepted, unless-accepts}
 use Rattle.model.specs.Checks.{sameLength, roomCheck, loneEdgeCheck, loneOffsetCheck, networkLists, eventLists, networkValues, networkCheck, locationsOverNetworkCheck, eventValues, orderCheck, laidOutCheck}
 use Rattle.model.specs.Events.{having, setSize}
 use Rattle.model.specs.Network.{Network, size}
@@ -36,11 +36,6 @@ made-twice Accepted (Refused n p) e f rest = refl
 made-twice Accepted Accepted (Refused n p) f rest = refl
 made-twice Accepted Accepted Accepted (Refused n p) rest = refl
 made-twice Accepted Accepted Accepted Accepted rest = refl
-
-or-else-accepted : (a : Check) → orElse a Accepted ≡ a
-unfolding orElse
-or-else-accepted Accepted = refl
-or-else-accepted (Refused n p) = refl
 
 -- offset 0 is on every edge
 at-start : (net : Network) (e : ℕ) → loneOffsetCheck net e 0 ≡ Accepted

@@ -1,7 +1,7 @@
 -- The verdicts on what is to be printed, and what the answer and the list of bytes then are.
 use mathlib.Core.Bool.{Bool, true, false}
 use mathlib.Core.List.{List}
-use mathlib.Core.Path.{_≡_, refl, sym, _∙_}
+use mathlib.Core.Path.{_≡_, sym, _∙_}
 use Prim.Native.Nat.{ℕ, _+_, _-_, _≤_, _<_}
 use native.Mathlib.Nat.{zero-add}
 use native.Mathlib.Omega.{arith}
@@ -13,7 +13,7 @@ use Rattle.model.specs.Refusal.{orElse, unless}
 use Rattle.model.specs.declared.check.Check.{Check}
 use Rattle.model.specs.declared.check.Check.the-variants.{Accepted, Refused}
 use Rattle.model.proofs.Laws.CheckParts.{same-length-accepted, same-length-accepts, room-accepted, room-accepts}
-use Rattle.model.proofs.Laws.Refusal.{both-accepted, or-else-next, or-else-refused, unless-refuses}
+use Rattle.model.proofs.Laws.Refusal.{both-accepted, or-else-accepted, or-else-next, or-else-refused, unless-refuses}
 use Rattle.printing.specs.declared.answers.Printed.the-variants as printed
 use Rattle.printing.specs.Answers.{printedAnswer, rows, tableBytes, tableBytesCheck}
 use Rattle.printing.specs.Writing.{Put, Room, SameLengths}
@@ -38,12 +38,6 @@ room-refused n out e = unless-refuses _ 2 0 e
 pub room-at-front : (bytes out : List ℕ) → length bytes ≤ length out → Room out 0 bytes
 unfolding Room
 room-at-front bytes out h = omega arith
-
--- a check that accepts changes nothing behind another
-or-else-accepted : (check : Check) → orElse check Accepted ≡ check
-unfolding orElse
-or-else-accepted Accepted = refl
-or-else-accepted (Refused number place) = refl
 
 module _ (comparisons : Bool) (ts observed lower upper out : List ℕ) where
   -- the line of names has 35 bytes
