@@ -9,8 +9,9 @@ use Rattle.model.specs.Counting.{sumBelow}
 use Rattle.model.specs.Limits.{maxEvents}
 use Rattle.model.specs.Network.{Network, first, second, size}
 use Rattle.prepare.specs.Prepared.{entry}
-use Rattle.count_augmentation.specs.Reach.{farthest, reached, Run}
+use Rattle.count_augmentation.specs.Reach.{farthest, reached, lookedUp, Run}
 use Rattle.prepare.specs.Offsets.{OnEdge}
+use Rattle.count_augmentation.specs.Storing.{NumbersStored}
 use Rattle.count_augmentation.specs.declared.pairs.EdgePair.{EdgePair}
 
 -- the entry of the lesser of two ways, and of the least of four; an entry of 0 is none
@@ -35,18 +36,38 @@ edgePair net table i j =
           leastEntry (entry net table (first net i) (first net j)) (entry net table (first net i) (second net j)) (entry net table (second net i) (first net j)) (entry net table (second net i) (second net j));
     }
 
--- how many offsets of the second edge an event at x on the first reaches
+-- how far an event at x on the first edge reaches along the second, from its first end and from its second
+abbrev pub toFirst : EdgePair → ℕ → ℕ → ℕ
+toFirst g t x = farthest t (g .size) x (g .firsts) (g .back)
+
+abbrev pub toSecond : EdgePair → ℕ → ℕ → ℕ
+toSecond g t x = farthest t (g .size) x (g .onward) (g .seconds)
+
+-- how many offsets of the second edge it reaches
 unfoldable pub reachedBy : EdgePair → ℕ → ℕ → List ℕ → ℕ
-reachedBy g t x ys =
-    reached (g .other) (farthest t (g .size) x (g .firsts) (g .back)) (farthest t (g .size) x (g .onward) (g .seconds)) (g .same) t x ys
+reachedBy g t x ys = reached (g .other) (toFirst g t x) (toSecond g t x) (g .same) t x ys
 
 -- the same for all of a run
 unfoldable pub reachedPairs : EdgePair → ℕ → List ℕ → List ℕ → ℕ
 reachedPairs g t xs ys = sumBelow (length xs) (λ i. reachedBy g t (getD xs i 0) ys)
 
--- a run on the first edge, and one on the second with its stored numbers
+-- what is looked up for it, whatever the lists of numbers hold
+unfoldable pub lookedUpBy : EdgePair → ℕ → ℕ → List ℕ → List ℕ → List ℕ → ℕ
+lookedUpBy g t x ys near-first near-second =
+    lookedUp (g .other) (toFirst g t x) (toSecond g t x) (g .same) t x ys near-first near-second
+
+-- the same for all of a run
+unfoldable pub lookedUpPairs : EdgePair → ℕ → List ℕ → List ℕ → List ℕ → List ℕ → ℕ
+lookedUpPairs g t xs ys near-first near-second = sumBelow (length xs) (λ i. lookedUpBy g t (getD xs i 0) ys near-first near-second)
+
+-- a run on the first edge, and one on the second with its numbers, whatever these are
 pub record TwoRuns (g : EdgePair) (xs ys near-first near-second : List ℕ) : Type 0 where
   pub on-edge : OnEdge (g .size) xs
   pub few : length xs ≤ maxEvents
   pub run : Run (g .other) ys near-first near-second
   pub least-is : g .least ≡ leastEntry (g .firsts) (g .onward) (g .back) (g .seconds)
+
+-- and these are right
+pub record TwoRunsStored (g : EdgePair) (xs ys near-first near-second : List ℕ) : Type 0 where
+  pub runs : TwoRuns g xs ys near-first near-second
+  pub stored : NumbersStored (g .other) ys near-first near-second

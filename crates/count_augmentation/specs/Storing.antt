@@ -37,6 +37,17 @@ storedBefore near (suc k) = getD near k 0
 unfoldable pub placeOf : List ℕ → ℕ → ℕ
 placeOf xs limit = countIf (λ y. ltb y limit) xs
 
+-- the number stored with the last event, 0 if there is none
+abbrev pub storedLast : List ℕ → ℕ
+storedLast near = storedBefore near (length near)
+
+-- what is read for the first end of the offsets below a limit, and for the second of those from it on, whatever the list holds
+abbrev pub readBelow : List ℕ → List ℕ → ℕ → ℕ
+readBelow xs near limit = storedBefore near (placeOf xs limit)
+
+abbrev pub readFrom : List ℕ → List ℕ → ℕ → ℕ
+readFrom xs near limit = getD near (placeOf xs limit) 0
+
 -- the place that parts rising offsets at a limit is among so many from low on, or right behind them
 pub record Bracket (xs : List ℕ) (limit low left : ℕ) : Type 0 where
   pub within : low + left ≤ length xs

@@ -3,9 +3,9 @@ ghost use mathlib.Core.Bool.{cond};
 ghost use mathlib.Core.Path.{_≡_};
 ghost use Prim.Native.Nat.{_/_, _≤_};
 ghost use lib.Dec.{ltb};
-ghost use lib.ListN.{length, getD};
+ghost use lib.ListN.{length};
 ghost use Rattle.prepare.specs.Offsets.{Ordered};
-ghost use Rattle.count_augmentation.specs.Storing.{Bracket, Parted, storedBefore, placeOf};
+ghost use Rattle.count_augmentation.specs.Storing.{Bracket, Parted, storedLast, readBelow, readFrom};
 
 // So many places are halved away by four halvings.
 const LAST_FEW: usize = 15;
@@ -66,7 +66,7 @@ fn place_of(offsets: &[u32], limit: u64) -> usize
 // What is stored for the first end with the last offset below a limit, 0 if there is none: read, whatever the list holds.
 pub(crate) fn count_below(offsets: &[u32], near_first: &[u32], limit: u64) -> u32
     requires { ⌜ Ordered (now offsets) × (length (now «near_first») ≡ length (now offsets)) ⌝ }
-    ensures { λ r. ⌜ r ≡ storedBefore (now («near_first» .entry)) (placeOf (now (offsets .entry)) limit) ⌝ }
+    ensures { λ r. ⌜ r ≡ readBelow (now (offsets .entry)) (now («near_first» .entry)) limit ⌝ }
 {
     let place = place_of(offsets, limit);
     if place == 0 {
@@ -78,11 +78,22 @@ pub(crate) fn count_below(offsets: &[u32], near_first: &[u32], limit: u64) -> u3
 // What is stored for the second end with the first offset not below a limit, 0 if there is none: read, whatever the list holds.
 pub(crate) fn count_from(offsets: &[u32], near_second: &[u32], limit: u64) -> u32
     requires { ⌜ Ordered (now offsets) × (length (now «near_second») ≡ length (now offsets)) ⌝ }
-    ensures { λ r. ⌜ r ≡ getD (now («near_second» .entry)) (placeOf (now (offsets .entry)) limit) 0 ⌝ }
+    ensures { λ r. ⌜ r ≡ readFrom (now (offsets .entry)) (now («near_second» .entry)) limit ⌝ }
 {
     let place = place_of(offsets, limit);
     if place == offsets.len() {
         return 0;
     }
     near_second[place]
+}
+
+// What is stored for the first end with the last offset, 0 if there is none: the whole run's number, read, whatever the list holds.
+pub(crate) fn count_all(near_first: &[u32]) -> u32
+    ensures { λ r. ⌜ r ≡ storedLast (now («near_first» .entry)) ⌝ }
+{
+    let places = near_first.len();
+    if places == 0 {
+        return 0;
+    }
+    near_first[places - 1]
 }

@@ -2,14 +2,14 @@
 ghost use mathlib.Core.Bool.{true};
 ghost use mathlib.Core.List.{List};
 ghost use mathlib.Core.Path.{_≡_};
-ghost use Prim.Native.Nat.{ℕ, pred, _+_, _*_, _≤_, _<_};
+ghost use Prim.Native.Nat.{ℕ, pred, _+_, _*_, _≤_, _<_, max};
 ghost use lib.ListN.{length, getD};
 ghost use Rattle.model.specs.Limits.{maxEvents, maxPairs};
 ghost use Rattle.model.specs.Network.{network};
 ghost use Rattle.prepare.specs.EndTable.{EndTable, TableEntry};
-ghost use Rattle.count_augmentation.specs.Pairs.{lesserEntry, leastEntry, edgePair, reachedBy, reachedPairs, TwoRuns};
+ghost use Rattle.count_augmentation.specs.Pairs.{lesserEntry, leastEntry, edgePair, toFirst, toSecond, reachedBy, reachedPairs, lookedUpBy, lookedUpPairs, TwoRuns};
 ghost use Rattle.count_augmentation.specs.Reach.{Run};
-ghost use Rattle.prepare.specs.Offsets.{OnEdge};
+ghost use Rattle.count_augmentation.specs.Storing.{NumbersStored, storedLast};
 use crate::reach::count_reached;
 use crate::reach::reach;
 use crate::reach::reach_by;
@@ -95,6 +95,7 @@ pub(crate) fn edge_pair(
 pub(crate) fn is_beyond(g: EdgePair, threshold: u32) -> bool
     requires { ⌜ g .least ≡ leastEntry (g .firsts) (g .onward) (g .back) (g .seconds) ⌝ }
     ensures { λ r. ⌜ (r ≡ true → (t : ℕ) → t ≤ threshold → (x : ℕ) (ys : List ℕ) → reachedBy g t x ys ≡ 0) ⌝ }
+    ensures { λ r. ⌜ (r ≡ true → (x : ℕ) (ys near-first near-second : List ℕ) → Run (g .other) ys near-first near-second → lookedUpBy g threshold x ys near-first near-second ≡ 0) ⌝ }
 {
     if g.same {
         return false;
@@ -105,13 +106,14 @@ pub(crate) fn is_beyond(g: EdgePair, threshold: u32) -> bool
 // The whole second edge is within the threshold of every place on the first, by the least way: all their events are pairs.
 fn is_whole(g: EdgePair, threshold: u32) -> bool
     requires { ⌜ g .least ≡ leastEntry (g .firsts) (g .onward) (g .back) (g .seconds) ⌝ }
-    ensures { λ r. ⌜ (r ≡ true → (x : ℕ) (ys : List ℕ) → x ≤ g .size → OnEdge (g .other) ys → length ys ≡ reachedBy g threshold x ys) ⌝ }
+    ensures { λ r. ⌜ (r ≡ true → (x : ℕ) → x ≤ g .size → g .other < max (toFirst g threshold x) (toSecond g threshold x)) ⌝ }
 {
     let whole = g.other as u64;
     whole < reach_by(threshold, g.size, g.least)
 }
 
-// For each event of a run on the first edge, how many of a run on the second it reaches.
+// For each event of a run on the first edge, how many of a run on the second it reaches. The whole run's number is read beforehand,
+// once for all thresholds.
 pub(crate) fn count_run(
     g: EdgePair,
     threshold: u32,
@@ -119,15 +121,17 @@ pub(crate) fn count_run(
     offsets: &[u32],
     near_first: &[u32],
     near_second: &[u32],
+    all: u32,
 ) -> u64
-    requires { ⌜ TwoRuns g (now «from_offsets») (now offsets) (now «near_first») (now «near_second») ⌝ }
-    ensures { λ r. ⌜ (r ≡ reachedPairs g threshold (now («from_offsets» .entry)) (now (offsets .entry))) × (r ≤ maxPairs) ⌝ }
+    requires { ⌜ TwoRuns g (now «from_offsets») (now offsets) (now «near_first») (now «near_second») × (all ≡ storedLast (now «near_first»)) ⌝ }
+    ensures { λ r. ⌜ r ≡ lookedUpPairs g threshold (now («from_offsets» .entry)) (now (offsets .entry)) (now («near_first» .entry)) (now («near_second» .entry)) ⌝ }
+    ensures { λ r. ⌜ (NumbersStored (g .other) (now (offsets .entry)) (now («near_first» .entry)) (now («near_second» .entry)) → (r ≡ reachedPairs g threshold (now («from_offsets» .entry)) (now (offsets .entry))) × (r ≤ maxPairs)) ⌝ }
 {
     if is_beyond(g, threshold) {
         return 0;
     }
     if is_whole(g, threshold) {
-        return from_offsets.len() as u64 * offsets.len() as u64;
+        return from_offsets.len() as u64 * all as u64;
     }
     let mut total = 0;
     let mut i = 0;
@@ -139,6 +143,7 @@ pub(crate) fn count_run(
             offsets,
             near_first,
             near_second,
+            all,
         );
         i += 1;
     }
@@ -153,9 +158,11 @@ fn count_event(
     offsets: &[u32],
     near_first: &[u32],
     near_second: &[u32],
+    all: u32,
 ) -> u64
-    requires { ⌜ (offset ≤ g .size) × Run (g .other) (now offsets) (now «near_first») (now «near_second») ⌝ }
-    ensures { λ r. ⌜ (r ≡ reachedBy g threshold offset (now (offsets .entry))) × (r ≤ maxEvents) ⌝ }
+    requires { ⌜ (offset ≤ g .size) × Run (g .other) (now offsets) (now «near_first») (now «near_second») × (all ≡ storedLast (now «near_first»)) ⌝ }
+    ensures { λ r. ⌜ r ≡ lookedUpBy g threshold offset (now (offsets .entry)) (now («near_first» .entry)) (now («near_second» .entry)) ⌝ }
+    ensures { λ r. ⌜ (NumbersStored (g .other) (now (offsets .entry)) (now («near_first» .entry)) (now («near_second» .entry)) → (r ≡ reachedBy g threshold offset (now (offsets .entry))) × (r ≤ maxEvents)) ⌝ }
 {
     let to_first = reach(threshold, g.size, offset, g.firsts, g.back);
     let to_second = reach(threshold, g.size, offset, g.onward, g.seconds);
@@ -163,6 +170,7 @@ fn count_event(
         offsets,
         near_first,
         near_second,
+        all,
         g.other,
         to_first,
         to_second,

@@ -2,7 +2,8 @@
 ghost use mathlib.Core.Bool.{true, false};
 ghost use mathlib.Core.Path.{_≡_};
 ghost use Prim.Native.Nat.{_≤_};
-ghost use Rattle.count_augmentation.specs.Reach.{reachOf, farthest, reached, Run};
+ghost use Rattle.count_augmentation.specs.Reach.{reachOf, farthest, reached, lookedByEnds, lookedAround, lookedUp, Run};
+ghost use Rattle.count_augmentation.specs.Storing.{NumbersStored, storedLast};
 use crate::look_up::count_below;
 use crate::look_up::count_from;
 use model::covered;
@@ -31,34 +32,32 @@ pub(crate) fn reach(threshold: u32, size: u32, offset: u32, by_first: u32, by_se
     )
 }
 
-// On another edge: from its two ends, at most all of the run. Nothing is looked up where neither end is within reach, or the whole
-// edge is from one of them.
+// On another edge: from its two ends, at most all of the run. Nothing is looked up where neither end is within reach.
 fn count_by_ends(
     offsets: &[u32],
     near_first: &[u32],
     near_second: &[u32],
+    all: u32,
     size: u32,
     to_first: u64,
     to_second: u64,
     threshold: u32,
     offset: u32,
 ) -> u64
-    requires { ⌜ Run size (now offsets) (now «near_first») (now «near_second») ⌝ }
-    ensures { λ r. ⌜ r ≡ reached size «to_first» «to_second» false threshold offset (now (offsets .entry)) ⌝ }
+    requires { ⌜ Run size (now offsets) (now «near_first») (now «near_second») × (all ≡ storedLast (now «near_first»)) ⌝ }
+    ensures { λ r. ⌜ r ≡ lookedUp size «to_first» «to_second» false threshold offset (now (offsets .entry)) (now («near_first» .entry)) (now («near_second» .entry)) ⌝ }
+    ensures { λ r. ⌜ (NumbersStored size (now (offsets .entry)) (now («near_first» .entry)) (now («near_second» .entry)) → r ≡ reached size «to_first» «to_second» false threshold offset (now (offsets .entry))) ⌝ }
 {
     if to_first == 0 {
         if to_second == 0 {
             return 0;
         }
     }
-    let places = offsets.len() as u64;
     let whole = size as u64;
-    if whole < to_first {
-        return places;
+    if whole < greater(to_first, to_second) {
+        return all as u64;
     }
-    if whole < to_second {
-        return places;
-    }
+    let places = offsets.len() as u64;
     let first = count_below(offsets, near_first, to_first) as u64;
     let last = count_from(offsets, near_second, less(whole + 1, to_second)) as u64;
     let both = first + last;
@@ -70,18 +69,24 @@ fn count_around(
     offsets: &[u32],
     near_first: &[u32],
     near_second: &[u32],
+    all: u32,
     size: u32,
     to_first: u64,
     to_second: u64,
     threshold: u32,
     offset: u32,
 ) -> u64
-    requires { ⌜ Run size (now offsets) (now «near_first») (now «near_second») ⌝ }
-    ensures { λ r. ⌜ r ≡ reached size «to_first» «to_second» true threshold offset (now (offsets .entry)) ⌝ }
+    requires { ⌜ Run size (now offsets) (now «near_first») (now «near_second») × (all ≡ storedLast (now «near_first»)) ⌝ }
+    ensures { λ r. ⌜ r ≡ lookedUp size «to_first» «to_second» true threshold offset (now (offsets .entry)) (now («near_first» .entry)) (now («near_second» .entry)) ⌝ }
+    ensures { λ r. ⌜ (NumbersStored size (now (offsets .entry)) (now («near_first» .entry)) (now («near_second» .entry)) → r ≡ reached size «to_first» «to_second» true threshold offset (now (offsets .entry))) ⌝ }
 {
+    let whole = size as u64;
+    if whole < greater(to_first, to_second) {
+        return all as u64;
+    }
     let places = offsets.len() as u64;
     let first = count_below(offsets, near_first, to_first) as u64;
-    let last = count_from(offsets, near_second, less(size as u64 + 1, to_second)) as u64;
+    let last = count_from(offsets, near_second, less(whole + 1, to_second)) as u64;
     let from_window = count_from(
         offsets,
         near_second,
@@ -91,11 +96,13 @@ fn count_around(
     covered(places, first, last, less(places, from_window), upto)
 }
 
-// How many offsets of a run an event reaches, its own included.
+// How many offsets of a run an event reaches, its own included. Where the whole edge is within reach from one of its ends, that is
+// the whole run's number.
 pub(crate) fn count_reached(
     offsets: &[u32],
     near_first: &[u32],
     near_second: &[u32],
+    all: u32,
     size: u32,
     to_first: u64,
     to_second: u64,
@@ -103,14 +110,16 @@ pub(crate) fn count_reached(
     threshold: u32,
     offset: u32,
 ) -> u64
-    requires { ⌜ Run size (now offsets) (now «near_first») (now «near_second») ⌝ }
-    ensures { λ r. ⌜ r ≡ reached size «to_first» «to_second» own threshold offset (now (offsets .entry)) ⌝ }
+    requires { ⌜ Run size (now offsets) (now «near_first») (now «near_second») × (all ≡ storedLast (now «near_first»)) ⌝ }
+    ensures { λ r. ⌜ r ≡ lookedUp size «to_first» «to_second» own threshold offset (now (offsets .entry)) (now («near_first» .entry)) (now («near_second» .entry)) ⌝ }
+    ensures { λ r. ⌜ (NumbersStored size (now (offsets .entry)) (now («near_first» .entry)) (now («near_second» .entry)) → r ≡ reached size «to_first» «to_second» own threshold offset (now (offsets .entry))) ⌝ }
 {
     if own {
         return count_around(
             offsets,
             near_first,
             near_second,
+            all,
             size,
             to_first,
             to_second,
@@ -122,6 +131,7 @@ pub(crate) fn count_reached(
         offsets,
         near_first,
         near_second,
+        all,
         size,
         to_first,
         to_second,

@@ -4,9 +4,10 @@ ghost use Prim.Native.Nat.{suc, _≤_, _<_};
 ghost use lib.ListN.{length, getD};
 ghost use Rattle.model.specs.Network.{network};
 ghost use Rattle.prepare.specs.RunPairs.{runPairs};
-ghost use Rattle.count_augmentation.specs.Pairs.{reachedPairs, TwoRuns};
+ghost use Rattle.count_augmentation.specs.Pairs.{reachedPairs, TwoRunsStored};
 ghost use Rattle.count_augmentation.specs.Runs.{RunStored, RunsStored};
 ghost use Rattle.prepare.specs.Totals.{Steps, ReadyAt, UpTo, AddedAt, EarlierAdded, Totalled};
+use crate::look_up::count_all;
 use crate::pairs::EdgePair;
 use crate::pairs::count_run;
 use crate::pairs::edge_pair;
@@ -31,13 +32,22 @@ fn add_counts(
     thresholds: &[u32],
     totals: &mut [u64],
 )
-    requires { ⌜ TwoRuns g (now «from_offsets») (now offsets) (now «near_first») (now «near_second») × UpTo (length (now thresholds)) 9223372036854775808 (now totals) ⌝ }
+    requires { ⌜ TwoRunsStored g (now «from_offsets») (now offsets) (now «near_first») (now «near_second») × UpTo (length (now thresholds)) 9223372036854775808 (now totals) ⌝ }
     ensures { λ _. ⌜ AddedAt (length (now (thresholds .entry))) (λ k. reachedPairs g (getD (now (thresholds .entry)) k 0) (now («from_offsets» .entry)) (now (offsets .entry))) (now (totals .entry)) (now (totals .exit)) ⌝ }
 {
+    let all = count_all(near_first);
     let mut k = 0;
     while k < thresholds.len() {
         let threshold = threshold_at(thresholds, k);
-        let found = count_run(g, threshold, from_offsets, offsets, near_first, near_second);
+        let found = count_run(
+            g,
+            threshold,
+            from_offsets,
+            offsets,
+            near_first,
+            near_second,
+            all,
+        );
         totals[k] += found;
         k += 1;
     }

@@ -13,7 +13,7 @@ use Rattle.model.specs.Network.{Network, edges, size}
 use Rattle.prepare.proofs.Laws.RunPairs.{run-is, run-codes, part-of-length}
 use Rattle.prepare.proofs.Laws.Totals.{to-greatest}
 use Rattle.prepare.specs.RunPairs.{edgeOf, partOf, runPairs, RunsReady}
-use Rattle.count_augmentation.specs.Pairs.{leastEntry, edgePair, reachedBy, reachedPairs, TwoRuns}
+use Rattle.count_augmentation.specs.Pairs.{leastEntry, edgePair, reachedBy, reachedPairs, TwoRunsStored}
 use Rattle.count_augmentation.specs.Reach.{reached}
 use Rattle.count_augmentation.specs.Runs.{RunStored}
 use Rattle.prepare.specs.Offsets.{OnEdge}
@@ -75,7 +75,7 @@ module _ {net : Network} {table es xs bounds : List ℕ} {r q t : ℕ} (w : Runs
         (λ k h. count-places _ _ (partOf bounds b xs)
         (λ l m. reached-within net (w .ends) t (w .bound) (w .within-bound) (event (edgeOf es bounds a) (getD (partOf bounds a xs) k 0)) (event (edgeOf es bounds b) (getD (partOf bounds b xs) l 0)) (run-is w a ha la .is-event k h) (run-is w b hb lb .is-event l m) _ _ _ _ (run-codes w a b ha la hb lb at-first at-first) (run-codes w a b ha la hb lb at-first at-second) (run-codes w a b ha la hb lb at-second at-first) (run-codes w a b ha la hb lb at-second at-second)))
 
-    two-runs : {near-first near-second : List ℕ} → RunStored xs bounds near-first near-second b → TwoRuns (edgePair net table i j) (partOf bounds a xs) (partOf bounds b xs) (partOf bounds b near-first) (partOf bounds b near-second)
+    two-runs : {near-first near-second : List ℕ} → RunStored xs bounds near-first near-second b → TwoRunsStored (edgePair net table i j) (partOf bounds a xs) (partOf bounds b xs) (partOf bounds b near-first) (partOf bounds b near-second)
     unfolding edgePair
     two-runs {near-first} {near-second} stored =
         let run = run-is w a ha la in
@@ -83,23 +83,25 @@ module _ {net : Network} {table es xs bounds : List ℕ} {r q t : ℕ} (w : Runs
         let long = sym (other .part-length) in
         let on : OnEdge (size net j) (partOf bounds b xs) = other .on-edge in
         record {
-          on-edge = run .on-edge;
-          few = run .few;
-          run = record {
-            rising = other .rising;
-            on-edge = on;
-            few = other .few;
-            short = other .short;
-            first-length = part-of-length bounds near-first b (stored .in-first) ∙ long;
-            second-length = part-of-length bounds near-second b (stored .in-second) ∙ long;
-            stored = stored .stored _ on;
+          runs = record {
+            on-edge = run .on-edge;
+            few = run .few;
+            run = record {
+              rising = other .rising;
+              on-edge = on;
+              few = other .few;
+              short = other .short;
+              first-length = part-of-length bounds near-first b (stored .in-first) ∙ long;
+              second-length = part-of-length bounds near-second b (stored .in-second) ∙ long;
+            };
+            least-is = refl;
           };
-          least-is = refl;
+          stored = stored .stored _ on;
         }
 
     -- the same as the code reads it
     module _ {from to other-from other-to e f : ℕ} (read : RunsRead es bounds a b from to other-from other-to e f) (g : EdgePair) (g-is : g ≡ edgePair net table e f) where
-      pub runs-asked : {near-first near-second : List ℕ} → RunStored xs bounds near-first near-second b → TwoRuns g (take (to - from) (drop from xs)) (take (other-to - other-from) (drop other-from xs)) (take (other-to - other-from) (drop other-from near-first)) (take (other-to - other-from) (drop other-from near-second))
+      pub runs-asked : {near-first near-second : List ℕ} → RunStored xs bounds near-first near-second b → TwoRunsStored g (take (to - from) (drop from xs)) (take (other-to - other-from) (drop other-from xs)) (take (other-to - other-from) (drop other-from near-first)) (take (other-to - other-from) (drop other-from near-second))
       unfolding partOf edgeOf
       runs-asked stored =
           rw (g-is, read .edge-is, read .other-edge-is, read .from-is, read .to-is, read .other-from-is, read .other-to-is, add-one a, add-one b)

@@ -1,20 +1,20 @@
--- Two runs: bounds on what their events reach.
+-- Two runs: bounds on what their events reach, and what is looked up for them.
 use mathlib.Core.Bool.{Bool, false}
 use mathlib.Core.List.{List}
 use mathlib.Core.Path.{_≡_, refl, sym, _∙_}
 use Prim.Native.Nat.{ℕ, zero, suc, _+_, _-_, _*_, _≤_, _<_, min, max}
-use native.Mathlib.Decide.{decLt}
-use native.Mathlib.Nat.{suc-mul}
+use native.Mathlib.Nat.{suc-mul, mul-le-mul}
 use native.Mathlib.Omega.{arith}
 use lib.Dec.{eqb·suc-zero}
 use lib.ListN.{length, getD}
-use Rattle.model.proofs.Laws.Counting.{count-at-most, sum-below-zero, sum-below-cong}
+use Rattle.model.proofs.Laws.Counting.{count-at-most, sum-below-zero, sum-below-cong, sum-below-mono}
 use Rattle.model.specs.Counting.{sumBelow}
-use Rattle.count_augmentation.specs.Pairs.{lesserEntry, leastEntry, reachedBy, reachedPairs}
-use Rattle.count_augmentation.specs.Reach.{reachOf, farthest, reached}
-use Rattle.prepare.specs.Offsets.{OnEdge}
+use Rattle.model.specs.Limits.{maxPairs}
+use Rattle.count_augmentation.specs.Pairs.{lesserEntry, leastEntry, toFirst, toSecond, reachedBy, reachedPairs, lookedUpBy, lookedUpPairs, TwoRuns}
+use Rattle.count_augmentation.specs.Reach.{reachOf, farthest, reached, Run}
+use Rattle.count_augmentation.specs.Storing.{NumbersStored, storedLast}
 use Rattle.count_augmentation.specs.declared.pairs.EdgePair.{EdgePair}
-use Rattle.count_augmentation.proofs.Laws.Reach.{nothing-reached, all-from-first, all-from-second}
+use Rattle.count_augmentation.proofs.Laws.Reach.{nothing-reached, nothing-looked-up, whole-up, looked-small, looked-reached}
 
 -- a greater gap reaches no farther
 reach-none : (t a entry : ℕ) → reachOf t 0 entry ≡ 0 → reachOf t a entry ≡ 0
@@ -73,60 +73,79 @@ unfolding sumBelow
 sum-same zero m = omega arith
 sum-same (suc n) m = omega (arith, sum-same n m, suc-mul n m)
 
+-- from any place on an edge one reaches by its two ends as far as from the farthest
+reach-farthest : (t p x by-first by-second : ℕ) → x ≤ p → max (reachOf t p by-first) (reachOf t p by-second) ≤ farthest t p x by-first by-second
+unfolding farthest
+reach-farthest t p x f s h = omega (arith, reach-nearer t x p f h, reach-nearer t (p - x) p s (omega arith))
+
 module _ (g : EdgePair) (t : ℕ) where
-  -- no route is within a threshold that is no lower, even without gaps
-  pub none-reached : (t′ : ℕ) → t ≤ t′ → g .same ≡ false → reachOf t′ 0 (g .firsts) ≡ 0 → reachOf t′ 0 (g .onward) ≡ 0 → reachOf t′ 0 (g .back) ≡ 0 → reachOf t′ 0 (g .seconds) ≡ 0 → (x : ℕ) (ys : List ℕ) → reachedBy g t x ys ≡ 0
-  unfolding reachedBy
-  none-reached t′ h other ff fs sf ss x ys =
-      let lower : (entry : ℕ) → reachOf t′ 0 entry ≡ 0 → reachOf t 0 entry ≡ 0 = λ entry e. reach-lower t t′ entry h e in
-      rw (other, farthest-none t (g .size) x (g .firsts) (g .back) (lower _ ff) (lower _ sf), farthest-none t (g .size) x (g .onward) (g .seconds) (lower _ fs) (lower _ ss))
-      (sym (nothing-reached (g .other) ys 0 0 t x refl refl))
+  -- no route is within a threshold that is no lower, even by the least way and without gaps
+  module _ (t′ : ℕ) (h : t ≤ t′) (least : g .least ≡ leastEntry (g .firsts) (g .onward) (g .back) (g .seconds)) (none : reachOf t′ 0 (g .least) ≡ 0) where
+    most : max (max (reachOf t′ 0 (g .firsts)) (reachOf t′ 0 (g .onward))) (max (reachOf t′ 0 (g .back)) (reachOf t′ 0 (g .seconds))) ≡ 0
+    most = rw (least, reach-least t′ 0 (g .firsts) (g .onward) (g .back) (g .seconds)) at none
 
-  -- the same by the least way
-  pub none-by-least : (t′ : ℕ) → t ≤ t′ → g .same ≡ false → g .least ≡ leastEntry (g .firsts) (g .onward) (g .back) (g .seconds) → reachOf t′ 0 (g .least) ≡ 0 → (x : ℕ) (ys : List ℕ) → reachedBy g t x ys ≡ 0
-  none-by-least t′ h other least e =
-      let most = reach-least t′ 0 (g .firsts) (g .onward) (g .back) (g .seconds) in
-      let none : reachOf t′ 0 (leastEntry (g .firsts) (g .onward) (g .back) (g .seconds)) ≡ 0 = rw least at e in
-      none-reached t′ h other (omega arith) (omega arith) (omega arith) (omega arith)
+    first-beyond : (x : ℕ) → toFirst g t x ≡ 0
+    first-beyond x = farthest-none t (g .size) x (g .firsts) (g .back) (reach-lower t t′ _ h (omega (arith, most))) (reach-lower t t′ _ h (omega (arith, most)))
 
-  -- the whole edge is within the threshold of the farthest offset, from its first end or from its second
-  module _ (x : ℕ) (ys : List ℕ) (h : x ≤ g .size) (on : OnEdge (g .other) ys) where
-    whole-to-first : g .other < max (reachOf t (g .size) (g .firsts)) (reachOf t (g .size) (g .back)) → length ys ≡ reachedBy g t x ys
-    unfolding reachedBy farthest
-    whole-to-first l =
-        all-from-first (g .other) ys on _ _ (g .same) t x (omega (arith, reach-nearer t x (g .size) (g .firsts) h, reach-nearer t (g .size - x) (g .size) (g .back) (omega arith)))
+    second-beyond : (x : ℕ) → toSecond g t x ≡ 0
+    second-beyond x = farthest-none t (g .size) x (g .onward) (g .seconds) (reach-lower t t′ _ h (omega (arith, most))) (reach-lower t t′ _ h (omega (arith, most)))
 
-    whole-to-second : g .other < max (reachOf t (g .size) (g .onward)) (reachOf t (g .size) (g .seconds)) → length ys ≡ reachedBy g t x ys
-    unfolding reachedBy farthest
-    whole-to-second l =
-        all-from-second (g .other) ys on _ _ (g .same) t x (omega (arith, reach-nearer t x (g .size) (g .onward) h, reach-nearer t (g .size - x) (g .size) (g .seconds) (omega arith)))
+    pub none-by-least : g .same ≡ false → (x : ℕ) (ys : List ℕ) → reachedBy g t x ys ≡ 0
+    unfolding reachedBy
+    none-by-least other x ys =
+        rw (other, first-beyond x, second-beyond x) (sym (nothing-reached (g .other) ys 0 0 t x refl refl))
 
-    -- by the least way
-    pub whole-by-least : g .least ≡ leastEntry (g .firsts) (g .onward) (g .back) (g .seconds) → g .other < reachOf t (g .size) (g .least) → length ys ≡ reachedBy g t x ys
-    whole-by-least least l = go (decLt (g .other) (max (reachOf t (g .size) (g .firsts)) (reachOf t (g .size) (g .back))))
-      where
-        most : g .other < max (max (reachOf t (g .size) (g .firsts)) (reachOf t (g .size) (g .onward))) (max (reachOf t (g .size) (g .back)) (reachOf t (g .size) (g .seconds)))
-        most = rw (least, reach-least t (g .size) (g .firsts) (g .onward) (g .back) (g .seconds)) at l
+    pub none-looked-up : g .same ≡ false → (x : ℕ) (ys near-first near-second : List ℕ) → Run (g .other) ys near-first near-second → lookedUpBy g t x ys near-first near-second ≡ 0
+    unfolding lookedUpBy
+    none-looked-up other x ys near-first near-second run =
+        rw (other, first-beyond x, second-beyond x) (nothing-looked-up run t x)
 
-        go : Dec (g .other < max (reachOf t (g .size) (g .firsts)) (reachOf t (g .size) (g .back))) → length ys ≡ reachedBy g t x ys
-        go (yes p) = whole-to-first p
-        go (no p) = whole-to-second (omega (arith, most))
-
-  -- every two events of two runs
-  pub all-pairs : (xs ys : List ℕ) → ((x : ℕ) → x ≤ g .size → length ys ≡ reachedBy g t x ys) → OnEdge (g .size) xs → length xs * length ys ≡ reachedPairs g t xs ys
-  unfolding reachedPairs
-  all-pairs xs ys whole on =
-      sym (sum-below-cong (length xs) _ _ (λ i h. sym (whole (getD xs i 0) (on .on i h))) ∙ sum-same (length xs) (length ys))
+  -- by the least way the whole edge is within the threshold of the farthest offset
+  pub whole-by-least : (x : ℕ) → x ≤ g .size → g .least ≡ leastEntry (g .firsts) (g .onward) (g .back) (g .seconds) → g .other < reachOf t (g .size) (g .least) → g .other < max (toFirst g t x) (toSecond g t x)
+  whole-by-least x h least l =
+      let far : g .other < max (max (reachOf t (g .size) (g .firsts)) (reachOf t (g .size) (g .onward))) (max (reachOf t (g .size) (g .back)) (reachOf t (g .size) (g .seconds))) = rw (least, reach-least t (g .size) (g .firsts) (g .onward) (g .back) (g .seconds)) at l in
+      omega (arith, reach-farthest t (g .size) x (g .firsts) (g .back) h, reach-farthest t (g .size) x (g .onward) (g .seconds) h)
 
   -- at most a whole run is reached
   pub reached-few : (x : ℕ) (ys : List ℕ) → reachedBy g t x ys ≤ length ys
   unfolding reachedBy reached
   reached-few x ys = count-at-most _ ys
 
-  -- nothing of two runs
+  -- nothing of two runs, and at most every two of their events
   pub no-pairs : (xs ys : List ℕ) → ((x : ℕ) (ys : List ℕ) → reachedBy g t x ys ≡ 0) → 0 ≡ reachedPairs g t xs ys
   unfolding reachedPairs
   no-pairs xs ys none = sym (sum-below-zero (length xs) _ (λ i h. none (getD xs i 0) ys))
+
+  pairs-at-most : (xs ys : List ℕ) → reachedPairs g t xs ys ≤ length xs * length ys
+  unfolding reachedPairs
+  pairs-at-most xs ys = omega (arith, sum-below-mono (length xs) (λ i. reachedBy g t (getD xs i 0) ys) (λ i. length ys) (λ i h. reached-few (getD xs i 0) ys), sum-same (length xs) (length ys))
+
+  -- what is looked up is no greater than the whole run's number and the size of the run
+  pub looked-up-small : (x : ℕ) (ys near-first near-second : List ℕ) (m : ℕ) → storedLast near-first ≤ m → length ys ≤ m → lookedUpBy g t x ys near-first near-second ≤ m
+  unfolding lookedUpBy
+  looked-up-small x ys near-first near-second m small few = looked-small _ _ _ t x ys near-first near-second (g .same) m small few
+
+  -- what is looked up for the events of a run
+  module _ {xs ys near-first near-second : List ℕ} (two : TwoRuns g xs ys near-first near-second) where
+    pub no-look-ups : ((x : ℕ) (ys near-first near-second : List ℕ) → Run (g .other) ys near-first near-second → lookedUpBy g t x ys near-first near-second ≡ 0) → 0 ≡ lookedUpPairs g t xs ys near-first near-second
+    unfolding lookedUpPairs
+    no-look-ups none = sym (sum-below-zero (length xs) _ (λ i h. none (getD xs i 0) ys near-first near-second (two .run)))
+
+    -- the whole run's number for each
+    pub all-look-ups : ((x : ℕ) → x ≤ g .size → g .other < max (toFirst g t x) (toSecond g t x)) → length xs * storedLast near-first ≡ lookedUpPairs g t xs ys near-first near-second
+    unfolding lookedUpPairs lookedUpBy
+    all-look-ups whole =
+        sym (sum-below-cong (length xs) _ (λ i. storedLast near-first) (λ i h. sym (whole-up _ _ _ t (getD xs i 0) ys near-first near-second (g .same) (whole (getD xs i 0) (two .on-edge .on i h)))) ∙ sum-same (length xs) (storedLast near-first))
+
+    -- with right numbers what is reached
+    pairs-looked-up : NumbersStored (g .other) ys near-first near-second → lookedUpPairs g t xs ys near-first near-second ≡ reachedPairs g t xs ys
+    unfolding lookedUpPairs reachedPairs lookedUpBy reachedBy
+    pairs-looked-up stored = sum-below-cong (length xs) _ _ (λ i h. looked-reached (two .run) stored _ _ t (getD xs i 0) (g .same))
+
+    pub pairs-counted : {r : ℕ} → r ≡ lookedUpPairs g t xs ys near-first near-second → NumbersStored (g .other) ys near-first near-second → (r ≡ reachedPairs g t xs ys) × (r ≤ maxPairs)
+    pairs-counted read stored =
+        let same = read ∙ pairs-looked-up stored in
+        (same, omega (arith, same, pairs-at-most xs ys, mul-le-mul (two .few) (two .run .few)))
 
 -- two edges with equal entries
 pub same-pair : {p q ff fs sf ss ff′ fs′ sf′ ss′ least : ℕ} {same : Bool} → ff ≡ ff′ → fs ≡ fs′ → sf ≡ sf′ → ss ≡ ss′ → least ≡ leastEntry ff fs sf ss → _≡_ {A = EdgePair} (record { size = p; other = q; firsts = ff; onward = fs; back = sf; seconds = ss; same = same; least = least }) (record { size = p; other = q; firsts = ff′; onward = fs′; back = sf′; seconds = ss′; same = same; least = leastEntry ff′ fs′ sf′ ss′ })

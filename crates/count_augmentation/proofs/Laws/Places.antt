@@ -13,7 +13,7 @@ use Rattle.model.specs.Counting.{one-if, countIf}
 use Rattle.model.specs.Location.{at-first, at-second, gap}
 use Rattle.count_augmentation.specs.Augmented.{noFarther}
 use Rattle.prepare.specs.Offsets.{Ordered, OnEdge}
-use Rattle.count_augmentation.specs.Storing.{atMost, atLeast, NumbersStored, Parted, storedBefore, placeOf}
+use Rattle.count_augmentation.specs.Storing.{atMost, atLeast, NumbersStored, Parted, storedBefore, placeOf, readBelow, readFrom}
 
 -- a test that holds before a place and fails from it on counts the place
 pub count-before : (test : ℕ → Bool) (xs : List ℕ) (place : ℕ) → place ≤ length xs → ((k : ℕ) → k < place → test (getD xs k 0) ≡ true) → ((k : ℕ) → place ≤ k → k < length xs → test (getD xs k 0) ≡ false) → countIf test xs ≡ place
@@ -48,23 +48,28 @@ past-end [] k h = refl
 past-end (x ∷ l) zero h = absurd (omega arith)
 past-end (x ∷ l) (suc k) h = past-end l k (omega arith)
 
--- what is read there
-pub before-first : (xs near : List ℕ) (limit place : ℕ) → Parted xs limit place → place ≡ 0 → 0 ≡ storedBefore near (placeOf xs limit)
+-- what is read before a place
+pub stored-none : (near : List ℕ) (n : ℕ) → n ≡ 0 → 0 ≡ storedBefore near n
 unfolding storedBefore
-before-first xs near limit place parted e = rw (place-is xs limit place parted, e)
+stored-none near n e = rw e
 
-pub before-later : (xs near : List ℕ) (limit place : ℕ) → Parted xs limit place → 1 ≤ place → getD near (place - 1) 0 ≡ storedBefore near (placeOf xs limit)
-before-later xs near limit place parted h = rw (place-is xs limit place parted) (go place h)
-  where
-    go : (n : ℕ) → 1 ≤ n → getD near (n - 1) 0 ≡ storedBefore near n
-    go zero h = absurd (omega arith)
-    go (suc n) h = unfold storedBefore in ap (λ (k : ℕ). getD near k 0) {x = suc n - 1} {y = n} (omega arith)
+pub stored-some : (near : List ℕ) (n : ℕ) → 1 ≤ n → getD near (n - 1) 0 ≡ storedBefore near n
+unfolding storedBefore
+stored-some near zero h = absurd (omega arith)
+stored-some near (suc n) h = ap (λ (k : ℕ). getD near k 0) {x = suc n - 1} {y = n} (omega arith)
 
-pub behind-last : (xs near : List ℕ) (limit place : ℕ) → Parted xs limit place → place ≡ length xs → length near ≡ length xs → 0 ≡ getD near (placeOf xs limit) 0
+-- what is read there
+pub before-first : (xs near : List ℕ) (limit place : ℕ) → Parted xs limit place → place ≡ 0 → 0 ≡ readBelow xs near limit
+before-first xs near limit place parted e = rw (place-is xs limit place parted) (stored-none near place e)
+
+pub before-later : (xs near : List ℕ) (limit place : ℕ) → Parted xs limit place → 1 ≤ place → getD near (place - 1) 0 ≡ readBelow xs near limit
+before-later xs near limit place parted h = rw (place-is xs limit place parted) (stored-some near place h)
+
+pub behind-last : (xs near : List ℕ) (limit place : ℕ) → Parted xs limit place → place ≡ length xs → length near ≡ length xs → 0 ≡ readFrom xs near limit
 behind-last xs near limit place parted e long =
     sym (ap (λ (k : ℕ). getD near k 0) (place-is xs limit place parted) ∙ past-end near place (omega arith))
 
-pub at-place : (xs near : List ℕ) (limit place : ℕ) → Parted xs limit place → getD near place 0 ≡ getD near (placeOf xs limit) 0
+pub at-place : (xs near : List ℕ) (limit place : ℕ) → Parted xs limit place → getD near place 0 ≡ readFrom xs near limit
 at-place xs near limit place parted = ap (λ (k : ℕ). getD near k 0) (sym (place-is xs limit place parted))
 
 -- a test that fails before a place and holds from it on counts what is left
@@ -152,7 +157,7 @@ module _ (p : ℕ) (xs near-first near-second : List ℕ) (on-edge : OnEdge p xs
 
   -- read from right numbers, they are how many offsets are below a limit and how many are not
   module _ (rising : Ordered xs) (limit place : ℕ) (parted : Parted xs limit place) where
-    pub read-below : storedBefore near-first (placeOf xs limit) ≡ countIf (λ y. ltb y limit) xs
+    pub read-below : readBelow xs near-first limit ≡ countIf (λ y. ltb y limit) xs
     read-below = rw (place-is xs limit place parted) (go place refl)
       where
         later : (n : ℕ) → suc n ≡ place → getD near-first n 0 ≡ countIf (λ y. ltb y limit) xs
@@ -164,7 +169,7 @@ module _ (p : ℕ) (xs near-first near-second : List ℕ) (on-edge : OnEdge p xs
         go zero e = unfold storedBefore in sym (none-below xs rising limit place parted (sym e))
         go (suc n) e = unfold storedBefore in later n e
 
-    pub read-from : length near-second ≡ length xs → getD near-second (placeOf xs limit) 0 ≡ countIf (λ y. leb limit y) xs
+    pub read-from : length near-second ≡ length xs → readFrom xs near-second limit ≡ countIf (λ y. leb limit y) xs
     read-from long = rw (place-is xs limit place parted) (go (decLe (length xs) place))
       where
         go : Dec (length xs ≤ place) → getD near-second place 0 ≡ countIf (λ y. leb limit y) xs

@@ -1,9 +1,10 @@
 -- What an event reaches of a run: first places, last places and a window, each told by a stored number.
 use mathlib.Core.Bool.{Bool, true, false, not, _&&_, _||_}
 use mathlib.Core.List.{List}
-use mathlib.Core.Path.{_≡_, refl, sym, ap₂, _∙_}
+use mathlib.Core.Path.{_≡_, refl, sym, ap, ap₂, _∙_}
 use Prim.Native.Nat.{ℕ, suc, _+_, _-_, _≤_, _<_, min, max}
 use native.Mathlib.Decide.{decLt}
+use native.Mathlib.Nat.{le-trans}
 use native.Mathlib.Omega.{arith}
 use borrow.Author.Tests.{le-leb, lt-leb, lt-ltb, le-ltb, leb-true, leb-false, ltb-true, ltb-false, not-true}
 use lib.Dec.{leb, ltb}
@@ -13,26 +14,26 @@ use Rattle.model.proofs.Laws.Counting.{count-mono, count-at-most}
 use Rattle.model.proofs.Laws.Cover.{cover-list, first-places, last-places}
 use Rattle.model.specs.Counting.{countIf, covered}
 use Rattle.model.specs.Distance.{difference}
-use Rattle.count_augmentation.specs.Reach.{isReached, reached, Run}
+use Rattle.count_augmentation.specs.Reach.{isReached, reached, lookedByEnds, lookedAround, lookedUp, Run}
 use Rattle.prepare.specs.Offsets.{Ordered, OnEdge}
-use Rattle.count_augmentation.specs.Storing.{Parted, storedBefore, placeOf}
-use Rattle.count_augmentation.proofs.Laws.Places.{count-before, count-not, read-below, read-from}
+use Rattle.count_augmentation.specs.Storing.{NumbersStored, Parted, storedBefore, placeOf, storedLast, readBelow, readFrom}
+use Rattle.count_augmentation.proofs.Laws.Places.{count-before, count-not, place-is, before-first, behind-last, read-below, read-from}
 
 -- how many offsets are below a limit, and how many are not
-abbrev pub below-limit : List ℕ → ℕ → ℕ
+abbrev below-limit : List ℕ → ℕ → ℕ
 below-limit ys limit = countIf (λ y. ltb y limit) ys
 
-abbrev pub from-limit : List ℕ → ℕ → ℕ
+abbrev from-limit : List ℕ → ℕ → ℕ
 from-limit ys limit = countIf (λ y. leb limit y) ys
 
 -- what is below a limit stands at the first places, what is not at the last
 module _ (ys : List ℕ) (rising : Ordered ys) (limit : ℕ) where
-  pub below-first : (k : ℕ) → k < length ys → ltb (getD ys k 0) limit ≡ ltb k (below-limit ys limit)
+  below-first : (k : ℕ) → k < length ys → ltb (getD ys k 0) limit ≡ ltb k (below-limit ys limit)
   below-first =
       first-places (λ y. ltb y limit) ys
       (λ k j l m e. lt-ltb (getD ys k 0) limit (omega (arith, ltb-true (getD ys j 0) limit e, rising .in-order k j l m)))
 
-  pub from-last : (k : ℕ) → k < length ys → leb limit (getD ys k 0) ≡ leb (length ys - from-limit ys limit) k
+  from-last : (k : ℕ) → k < length ys → leb limit (getD ys k 0) ≡ leb (length ys - from-limit ys limit) k
   from-last =
       last-places (λ y. leb limit y) ys
       (λ k j l m e. le-leb limit (getD ys j 0) (omega (arith, leb-true limit (getD ys k 0) e, rising .in-order k j l m)))
@@ -56,6 +57,10 @@ summed : (l m n : ℕ) → m ≤ l → n ≤ l → min (m + n) l ≡ covered l m
 summed l m n h k =
     rw (no-gap m (l - n), max-self m) (omega arith)
 
+-- the same places told by equal numbers
+pub covered-as : (n : ℕ) {p p′ l l′ b b′ u u′ : ℕ} → p ≡ p′ → l ≡ l′ → b ≡ b′ → u ≡ u′ → covered n p l b u ≡ covered n p′ l′ b′ u′
+covered-as n first last below upto = rw (first, last, below, upto)
+
 -- nothing is within reach
 pub nothing-reached : (q : ℕ) (ys : List ℕ) (f s t x : ℕ) → f ≡ 0 → s ≡ 0 → 0 ≡ reached q f s false t x ys
 unfolding reached isReached
@@ -69,14 +74,14 @@ second-holds true w = refl
 second-holds false w = refl
 
 module _ (q : ℕ) (ys : List ℕ) (on-edge : OnEdge q ys) (f s : ℕ) (own : Bool) (t x : ℕ) where
-  pub all-from-first : q < f → length ys ≡ reached q f s own t x ys
+  all-from-first : q < f → length ys ≡ reached q f s own t x ys
   unfolding reached isReached
   all-from-first h =
       sym (count-before _ ys (length ys) (omega arith)
       (λ k l. rw (lt-ltb (getD ys k 0) f (omega (arith, on-edge .on k l))) refl)
       (λ k l m. absurd (omega arith)))
 
-  pub all-from-second : q < s → length ys ≡ reached q f s own t x ys
+  all-from-second : q < s → length ys ≡ reached q f s own t x ys
   unfolding reached isReached
   all-from-second h =
       sym (count-before _ ys (length ys) (omega arith)
@@ -96,7 +101,7 @@ module _ (q : ℕ) (ys : List ℕ) (rising : Ordered ys) (on-edge : OnEdge q ys)
       (omega arith) (below-first ys rising f) second-last (λ k h. no-place (below-limit ys f) k))
 
   -- the sum of both, at most all
-  pub ends-summed : (m n : ℕ) → m ≡ below-limit ys f → n ≡ from-limit ys (suc q - s) → min (m + n) (length ys) ≡ reached q f s false t x ys
+  ends-summed : (m n : ℕ) → m ≡ below-limit ys f → n ≡ from-limit ys (suc q - s) → min (m + n) (length ys) ≡ reached q f s false t x ys
   ends-summed m n first last =
       summed (length ys) m n (rw first (count-at-most _ ys)) (rw last (count-at-most _ ys))
       ∙ ap₂ (λ (m n : ℕ). covered (length ys) m n m m) first last ∙ reached-by-ends
@@ -111,21 +116,50 @@ module _ (q : ℕ) (ys : List ℕ) (rising : Ordered ys) (on-edge : OnEdge q ys)
       )
 
   -- from the two ends and in the window
-  pub reached-around : covered (length ys) (below-limit ys f) (from-limit ys (suc q - s)) (length ys - from-limit ys (x - t)) (below-limit ys (x + t + 1)) ≡ reached q f s true t x ys
+  reached-around : covered (length ys) (below-limit ys f) (from-limit ys (suc q - s)) (length ys - from-limit ys (x - t)) (below-limit ys (x + t + 1)) ≡ reached q f s true t x ys
   unfolding reached isReached
   reached-around =
       sym (cover-list ys (λ y. ltb y f) (λ y. ltb (q - y) s) (λ y. leb (difference x y) t) (below-limit ys f) (from-limit ys (suc q - s)) (length ys - from-limit ys (x - t)) (below-limit ys (x + t + 1))
       window-opens (below-first ys rising f) second-last
       (λ k h. in-window x (getD ys k 0) t ∙ ap₂ _&&_ (from-last ys rising (x - t) k h) (below-first ys rising (x + t + 1) k h)))
 
--- what the look-ups ask of a run, and what they read of its stored numbers
-module _ (q : ℕ) (ys near-first near-second : List ℕ) (run : Run q ys near-first near-second) where
-  pub look-first : Ordered ys × (length near-first ≡ length ys)
-  look-first = (run .rising, run .first-length)
+-- the whole edge is within reach of one end or the other
+all-reached : (q : ℕ) (ys : List ℕ) → OnEdge q ys → (f s : ℕ) (own : Bool) (t x : ℕ) → q < max f s → length ys ≡ reached q f s own t x ys
+all-reached q ys on-edge f s own t x h = go (decLt q f)
+  where
+    go : Dec (q < f) → length ys ≡ reached q f s own t x ys
+    go (yes l) = all-from-first q ys on-edge f s own t x l
+    go (no l) = all-from-second q ys on-edge f s own t x (omega arith)
 
-  pub look-second : Ordered ys × (length near-second ≡ length ys)
-  look-second = (run .rising, run .second-length)
+-- what is looked up, by its cases
+module _ (q f s t x : ℕ) (ys near-first near-second : List ℕ) where
+  pub whole-up : (own : Bool) → q < max f s → storedLast near-first ≡ lookedUp q f s own t x ys near-first near-second
+  unfolding lookedUp
+  whole-up own h = rw (lt-ltb q (max f s) h)
 
+  pub around-up : max f s ≤ q → lookedAround q f s t x ys near-first near-second ≡ lookedUp q f s true t x ys near-first near-second
+  unfolding lookedUp
+  around-up h = rw (le-ltb q (max f s) h)
+
+  pub ends-up : max f s ≤ q → lookedByEnds q f s ys near-first near-second ≡ lookedUp q f s false t x ys near-first near-second
+  unfolding lookedUp
+  ends-up h = rw (le-ltb q (max f s) h)
+
+  -- it is no greater than the whole run's number and the size of the run
+  pub looked-small : (own : Bool) (m : ℕ) → storedLast near-first ≤ m → length ys ≤ m → lookedUp q f s own t x ys near-first near-second ≤ m
+  unfolding lookedAround lookedByEnds
+  looked-small own m small few = go own (decLt q (max f s))
+    where
+      less-twice : (n a b : ℕ) → n - a - b ≤ n
+      less-twice n a b = omega arith
+
+      go : (own : Bool) → Dec (q < max f s) → lookedUp q f s own t x ys near-first near-second ≤ m
+      go own (yes h) = rw (← whole-up own h) small
+      go true (no h) = rw (← around-up (omega arith)) (le-trans (less-twice (length ys) _ _) few)
+      go false (no h) = rw (← ends-up (omega arith)) (omega arith)
+
+-- what the look-ups read of the numbers of a run
+module _ {q : ℕ} {ys near-first near-second : List ℕ} (run : Run q ys near-first near-second) where
   parted : (limit : ℕ) → Parted ys limit (below-limit ys limit)
   parted limit =
       record {
@@ -134,8 +168,53 @@ module _ (q : ℕ) (ys near-first near-second : List ℕ) (run : Run q ys near-f
         after = λ k h l. ltb-false (getD ys k 0) limit (below-first ys (run .rising) limit k l ∙ le-ltb k _ h);
       }
 
-  pub below-read : (limit : ℕ) → storedBefore near-first (placeOf ys limit) ≡ below-limit ys limit
-  below-read limit = read-below q ys near-first near-second (run .on-edge) (run .stored) (run .rising) limit _ (parted limit)
+  -- none of its offsets is below 0, and all are below a limit past the edge
+  parted-first : (limit : ℕ) → limit ≡ 0 → Parted ys limit 0
+  parted-first limit e = record { within = omega arith; before = λ k h. absurd (omega arith); after = λ k h l. omega arith }
 
-  pub from-read : (limit : ℕ) → getD near-second (placeOf ys limit) 0 ≡ from-limit ys limit
-  from-read limit = read-from q ys near-first near-second (run .on-edge) (run .stored) (run .rising) limit _ (parted limit) (run .second-length)
+  parted-last : (limit : ℕ) → q < limit → Parted ys limit (length ys)
+  parted-last limit l = record { within = omega arith; before = λ k h. omega (arith, run .on-edge .on k h); after = λ k h m. absurd (omega arith) }
+
+  -- with no end within reach nothing is read
+  pub nothing-read : (f s : ℕ) → f ≡ 0 → s ≡ 0 → 0 ≡ lookedByEnds q f s ys near-first near-second
+  unfolding lookedByEnds
+  nothing-read f s e g =
+      omega (arith, before-first ys near-first f 0 (parted-first f e) refl, behind-last ys near-second (suc q - s) (length ys) (parted-last (suc q - s) (omega arith)) refl (run .second-length))
+
+  pub nothing-looked-up : (t x : ℕ) → lookedUp q 0 0 false t x ys near-first near-second ≡ 0
+  nothing-looked-up t x = sym (nothing-read 0 0 refl refl ∙ ends-up q 0 0 t x ys near-first near-second (omega arith))
+
+  -- with right numbers it is how many offsets are below a limit, and how many are not
+  module _ (stored : NumbersStored q ys near-first near-second) where
+    below-read : (limit : ℕ) → readBelow ys near-first limit ≡ below-limit ys limit
+    below-read limit = read-below q ys near-first near-second (run .on-edge) stored (run .rising) limit _ (parted limit)
+
+    from-read : (limit : ℕ) → readFrom ys near-second limit ≡ from-limit ys limit
+    from-read limit = read-from q ys near-first near-second (run .on-edge) stored (run .rising) limit _ (parted limit) (run .second-length)
+
+    -- the whole run's number is its size
+    all-read : storedLast near-first ≡ length ys
+    unfolding placeOf
+    all-read =
+        let place : placeOf ys (suc q) ≡ length ys = place-is ys (suc q) (length ys) (parted-last (suc q) (omega arith)) in
+        ap (storedBefore near-first) (run .first-length ∙ sym place) ∙ below-read (suc q) ∙ place
+
+    module _ (f s t x : ℕ) where
+      pub looked-by-ends : lookedByEnds q f s ys near-first near-second ≡ reached q f s false t x ys
+      unfolding lookedByEnds
+      looked-by-ends = ends-summed q ys (run .rising) (run .on-edge) f s t x _ _ (below-read f) (from-read (suc q - s))
+
+      pub looked-around : lookedAround q f s t x ys near-first near-second ≡ reached q f s true t x ys
+      unfolding lookedAround
+      looked-around =
+          covered-as (length ys) (below-read f) (from-read (suc q - s)) (ap (λ (n : ℕ). length ys - n) (from-read (x - t))) (below-read (x + t + 1))
+          ∙ reached-around q ys (run .rising) (run .on-edge) f s t x
+
+      -- what is looked up is what is reached
+      pub looked-reached : (own : Bool) → lookedUp q f s own t x ys near-first near-second ≡ reached q f s own t x ys
+      looked-reached own = go own (decLt q (max f s))
+        where
+          go : (own : Bool) → Dec (q < max f s) → lookedUp q f s own t x ys near-first near-second ≡ reached q f s own t x ys
+          go own (yes h) = sym (whole-up q f s t x ys near-first near-second own h) ∙ all-read ∙ all-reached q ys (run .on-edge) f s own t x h
+          go true (no h) = sym (around-up q f s t x ys near-first near-second (omega arith)) ∙ looked-around
+          go false (no h) = sym (ends-up q f s t x ys near-first near-second (omega arith)) ∙ looked-by-ends

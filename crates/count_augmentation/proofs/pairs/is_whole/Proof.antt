@@ -13,7 +13,7 @@ reach-by-requires : tie.Need-reach-by-requires
 reach-by-requires c κs = search needs
 
 returns : tie.Need-returns
-returns c = λ e x ys h on. whole-by-least (c .before .before .args .g) (c .before .before .args .threshold) x ys h on (c .before .before .pre) (omega (arith, ltb-true (c .before .before .args .g .other) (c .reach-by .result) e, c .reach-by .ensures))
+returns c = λ e x h. whole-by-least (c .before .before .args .g) (c .before .before .args .threshold) x h (c .before .before .pre) (omega (arith, ltb-true (c .before .before .args .g .other) (c .reach-by .result) e, c .reach-by .ensures))
 
 pub is-whole-spec : {M : Type 1} → statement M
 is-whole-spec = tie.close (tie.spec cast-whole reach-by-requires returns)

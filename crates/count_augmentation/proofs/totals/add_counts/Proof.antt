@@ -10,11 +10,14 @@ use Rattle.count_augmentation.proofs.totals.add_counts.Statement.{state
 use Rattle.count_augmentation.proofs.totals.add_counts.Tie as tie
 
 abbrev Inv-loop : tie.InvT-loop
-Inv-loop g from-offsets offsets near-first near-second thresholds totals₀ k₀ totals k =
+Inv-loop g from-offsets offsets near-first near-second thresholds totals₀ all k₀ totals k =
     (k ≤ length thresholds) × AddedTo (λ j. reachedPairs g (getD thresholds j 0) from-offsets offsets) totals₀ k totals
 
 abbrev μ-loop : tie.MeasureT-loop
-μ-loop g from-offsets offsets near-first near-second thresholds totals₀ k₀ totals k = length thresholds - k
+μ-loop g from-offsets offsets near-first near-second thresholds totals₀ all k₀ totals k = length thresholds - k
+
+count-all-requires : tie.Need-count-all-requires Inv-loop μ-loop
+count-all-requires c κs = search needs
 
 loop-holds : tie.Need-loop-holds Inv-loop μ-loop
 loop-holds c = (omega arith, nothing-added _ _)
@@ -23,21 +26,21 @@ threshold-at-requires : tie.Need-threshold-at-requires Inv-loop μ-loop
 threshold-at-requires c κs = omega arith
 
 count-run-requires : tie.Need-count-run-requires Inv-loop μ-loop
-count-run-requires c κs = c .before .before .before .before .before .before .before .before .before .pre .0
+count-run-requires c κs = (c .before .before .before .before .before .before .before .before .before .before .pre .0 .runs, c .before .before .before .count-all .ensures)
 
 -- there is a total for the next threshold
 inside : (c : tie.In-loop Inv-loop μ-loop) → c .before .loop .k < length (c .before .loop .totals)
-inside c = omega (arith, c .loop-test .taken, c .before .before .before .before .before .before .before .before .pre .1 .long, c .before .loop .inv .1 .long)
+inside c = omega (arith, c .loop-test .taken, c .before .before .before .before .before .before .before .before .before .pre .1 .long, c .before .loop .inv .1 .long)
 
 mul-totals : tie.Need-mul-totals Inv-loop μ-loop
-mul-totals c = omega (arith, inside (c .before .before), c .before .before .before .loop .inv .1 .long, c .before .before .before .before .before .before .before .before .before .before .good)
+mul-totals c = omega (arith, inside (c .before .before), c .before .before .before .loop .inv .1 .long, c .before .before .before .before .before .before .before .before .before .before .before .good)
 
 slice-read-totals : tie.Need-slice-read-totals Inv-loop μ-loop
 slice-read-totals c = search needs
 
 add-totals : tie.Need-add-totals Inv-loop μ-loop
 add-totals c =
-    omega (arith, c .before .before .before .before .loop .inv .1 .rest (c .before .before .before .before .loop .k) (omega arith), c .before .before .before .before .before .before .before .before .before .before .before .pre .1 .small (c .before .before .before .before .loop .k) (c .before .before .before .loop-test .taken), c .before .count-run .ensures .1)
+    omega (arith, c .before .before .before .before .loop .inv .1 .rest (c .before .before .before .before .loop .k) (omega arith), c .before .before .before .before .before .before .before .before .before .before .before .before .pre .1 .small (c .before .before .before .before .loop .k) (c .before .before .before .loop-test .taken), c .before .count-run .ensures .1 (c .before .before .before .before .before .before .before .before .before .before .before .before .pre .0 .stored) .1)
 
 slice-write-totals : tie.Need-slice-write-totals Inv-loop μ-loop
 slice-write-totals c = search needs
@@ -51,7 +54,7 @@ loop-less c = search needs
 loop-again : tie.Need-loop-again Inv-loop μ-loop
 loop-again c = (
   omega (arith, c .before .before .before .loop-test .taken),
-  one-added (c .before .before .before .before .loop .inv .1) (omega (arith, inside (c .before .before .before), c .before .before .before .before .loop .inv .1 .long)) _ (c .before .count-run .ensures .0 ∙ ap (λ (t : ℕ). reachedPairs (c .before .before .before .before .before .before .before .before .before .before .before .args .g) t (c .before .before .before .before .before .before .before .before .before .before .before .args .from-offsets .now) (c .before .before .before .before .before .before .before .before .before .before .before .args .offsets .now)) (c .before .before .threshold-at .ensures)),
+  one-added (c .before .before .before .before .loop .inv .1) (omega (arith, inside (c .before .before .before), c .before .before .before .before .loop .inv .1 .long)) _ (c .before .count-run .ensures .1 (c .before .before .before .before .before .before .before .before .before .before .before .before .pre .0 .stored) .0 ∙ ap (λ (t : ℕ). reachedPairs (c .before .before .before .before .before .before .before .before .before .before .before .before .args .g) t (c .before .before .before .before .before .before .before .before .before .before .before .before .args .from-offsets .now) (c .before .before .before .before .before .before .before .before .before .before .before .before .args .offsets .now)) (c .before .before .threshold-at .ensures)),
 )
 
 same-length : tie.Need-same-length Inv-loop μ-loop
@@ -66,6 +69,7 @@ add-counts-spec =
     (tie.spec
     Inv-loop
     μ-loop
+    count-all-requires
     loop-holds
     threshold-at-requires
     count-run-requires

@@ -79,7 +79,7 @@ is-beyond-requires c κs = least-is _ _ _ _ (c .before .edge-pair .ensures)
 
 returns : tie.Need-returns
 returns c =
-    runs-apart (c .before .before .before .before .before .before .before .before .before .before .before .before .before .before .before .before .before .before .before .before .before .pre .0) (c .before .before .before .before .before .before .before .before .before .before .before .before .before .before .before .before .before .before .before .before .before .pre .1) (read (c .before .before .before)) _ (c .before .before .before .edge-pair .ensures) _ (c .before .before .before .before .before .before .before .before .before .before .before .before .before .before .before .before .before .before .before .before .before .pre .3) _ (c .before .before .threshold-at .ensures) (c .before .is-beyond .ensures (c .if1 .taken))
+    runs-apart (c .before .before .before .before .before .before .before .before .before .before .before .before .before .before .before .before .before .before .before .before .before .pre .0) (c .before .before .before .before .before .before .before .before .before .before .before .before .before .before .before .before .before .before .before .before .before .pre .1) (read (c .before .before .before)) _ (c .before .before .before .edge-pair .ensures) _ (c .before .before .before .before .before .before .before .before .before .before .before .before .before .before .before .before .before .before .before .before .before .pre .3) _ (c .before .before .threshold-at .ensures) (c .before .is-beyond .ensures .0 (c .if1 .taken))
 
 mul-add-counts : tie.Need-mul-add-counts
 mul-add-counts c = let run = own (c .before .before .before) in omega (arith, run .in-order, run .few)
