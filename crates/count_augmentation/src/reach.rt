@@ -37,15 +37,14 @@ fn count_by_ends(
     offsets: &[u32],
     near_first: &[u32],
     near_second: &[u32],
-    all: u32,
     size: u32,
     to_first: u64,
     to_second: u64,
     threshold: u32,
     offset: u32,
 ) -> u64
-    requires { ⌜ Run size (now offsets) (now «near_first») (now «near_second») × (all ≡ storedLast (now «near_first»)) ⌝ }
-    ensures { λ r. ⌜ r ≡ lookedUp size «to_first» «to_second» false threshold offset (now (offsets .entry)) (now («near_first» .entry)) (now («near_second» .entry)) ⌝ }
+    requires { ⌜ Run size (now offsets) (now «near_first») (now «near_second») ⌝ }
+    ensures { λ r. ⌜ r ≡ lookedByEnds size «to_first» «to_second» (now (offsets .entry)) (now («near_first» .entry)) (now («near_second» .entry)) ⌝ }
     ensures { λ r. ⌜ (NumbersStored size (now (offsets .entry)) (now («near_first» .entry)) (now («near_second» .entry)) → r ≡ reached size «to_first» «to_second» false threshold offset (now (offsets .entry))) ⌝ }
 {
     if to_first == 0 {
@@ -53,13 +52,9 @@ fn count_by_ends(
             return 0;
         }
     }
-    let whole = size as u64;
-    if whole < greater(to_first, to_second) {
-        return all as u64;
-    }
     let places = offsets.len() as u64;
     let first = count_below(offsets, near_first, to_first) as u64;
-    let last = count_from(offsets, near_second, less(whole + 1, to_second)) as u64;
+    let last = count_from(offsets, near_second, less(size as u64 + 1, to_second)) as u64;
     let both = first + last;
     lesser(both, places)
 }
@@ -69,24 +64,19 @@ fn count_around(
     offsets: &[u32],
     near_first: &[u32],
     near_second: &[u32],
-    all: u32,
     size: u32,
     to_first: u64,
     to_second: u64,
     threshold: u32,
     offset: u32,
 ) -> u64
-    requires { ⌜ Run size (now offsets) (now «near_first») (now «near_second») × (all ≡ storedLast (now «near_first»)) ⌝ }
-    ensures { λ r. ⌜ r ≡ lookedUp size «to_first» «to_second» true threshold offset (now (offsets .entry)) (now («near_first» .entry)) (now («near_second» .entry)) ⌝ }
+    requires { ⌜ Run size (now offsets) (now «near_first») (now «near_second») ⌝ }
+    ensures { λ r. ⌜ r ≡ lookedAround size «to_first» «to_second» threshold offset (now (offsets .entry)) (now («near_first» .entry)) (now («near_second» .entry)) ⌝ }
     ensures { λ r. ⌜ (NumbersStored size (now (offsets .entry)) (now («near_first» .entry)) (now («near_second» .entry)) → r ≡ reached size «to_first» «to_second» true threshold offset (now (offsets .entry))) ⌝ }
 {
-    let whole = size as u64;
-    if whole < greater(to_first, to_second) {
-        return all as u64;
-    }
     let places = offsets.len() as u64;
     let first = count_below(offsets, near_first, to_first) as u64;
-    let last = count_from(offsets, near_second, less(whole + 1, to_second)) as u64;
+    let last = count_from(offsets, near_second, less(size as u64 + 1, to_second)) as u64;
     let from_window = count_from(
         offsets,
         near_second,
@@ -97,7 +87,7 @@ fn count_around(
 }
 
 // How many offsets of a run an event reaches, its own included. Where the whole edge is within reach from one of its ends, that is
-// the whole run's number.
+// the whole run's number, all.
 pub(crate) fn count_reached(
     offsets: &[u32],
     near_first: &[u32],
@@ -114,12 +104,15 @@ pub(crate) fn count_reached(
     ensures { λ r. ⌜ r ≡ lookedUp size «to_first» «to_second» own threshold offset (now (offsets .entry)) (now («near_first» .entry)) (now («near_second» .entry)) ⌝ }
     ensures { λ r. ⌜ (NumbersStored size (now (offsets .entry)) (now («near_first» .entry)) (now («near_second» .entry)) → r ≡ reached size «to_first» «to_second» own threshold offset (now (offsets .entry))) ⌝ }
 {
+    let whole = size as u64;
+    if whole < greater(to_first, to_second) {
+        return all as u64;
+    }
     if own {
         return count_around(
             offsets,
             near_first,
             near_second,
-            all,
             size,
             to_first,
             to_second,
@@ -131,7 +124,6 @@ pub(crate) fn count_reached(
         offsets,
         near_first,
         near_second,
-        all,
         size,
         to_first,
         to_second,

@@ -1,25 +1,14 @@
--- The whole run's number, or what is read for the two ends and for the window, whose overlaps are counted once.
-use mathlib.Core.Bool.{true}
-use mathlib.Core.Path.{_≡_, ap, _∙_}
+-- What is read for the two ends and for the window, whose overlaps are counted once.
+use mathlib.Core.Path.{ap, _∙_}
 use Prim.Native.Nat.{ℕ, _-_}
 use native.Mathlib.Numerals.{add-one}
-use native.Mathlib.Omega.{arith}
 use lib.ListN.{length}
 use Rattle.count_augmentation.specs.Reach.{lookedAround}
 use Rattle.count_augmentation.specs.Storing.{readFrom}
-use Rattle.count_augmentation.proofs.Laws.Reach.{covered-as, whole-up, around-up, looked-reached}
+use Rattle.count_augmentation.proofs.Laws.Reach.{covered-as, looked-around}
 use borrow.Author.Needs.{needs}
 use Rattle.count_augmentation.proofs.reach.count_around.Statement.{statement}
 use Rattle.count_augmentation.proofs.reach.count_around.Tie as tie
-
-greater-requires : tie.Need-greater-requires
-greater-requires c κs = search needs
-
-returns : tie.Need-returns
-returns c =
-    let start = c .before .before .before .before .before in
-    let read = start .pre .1 ∙ whole-up (start .args .size) (start .args .to-first) (start .args .to-second) (start .args .threshold) (start .args .offset) (start .args .offsets .now) _ (start .args .near-second .now) true (omega (arith, c .if1 .taken, c .before .greater .ensures)) in
-    (read, λ stored. read ∙ looked-reached (start .pre .0) stored _ _ _ _ _)
 
 count-below-requires : tie.Need-count-below-requires
 count-below-requires c κs = search needs
@@ -66,26 +55,23 @@ less-requires-3 c κs = search needs
 covered-requires : tie.Need-covered-requires
 covered-requires c κs = search needs
 
-returns-2 : tie.Need-returns-2
+returns : tie.Need-returns
 unfolding lookedAround
-returns-2 c =
-    let start = c .before .before .before .before .before .before .before .before .before .before .before .before .before in
+returns c =
+    let start = c .before .before .before .before .before .before .before .before .before .before .before in
     let ys = start .args .offsets .now in
     let near = start .args .near-second .now in
     let limit = c .before .before .before .before .before .before .less .ensures ∙ ap (λ (n : ℕ). n - start .args .to-second) (add-one (start .args .size)) in
     let last = c .before .before .before .before .before .count-from .ensures ∙ ap (readFrom ys near) limit in
     let from-window = c .before .before .before .count-from2 .ensures ∙ ap (readFrom ys near) (c .before .before .before .before .less2 .ensures) in
     let below = c .before .less3 .ensures ∙ ap (λ (n : ℕ). length ys - n) from-window in
-    let around : c .covered .result ≡ lookedAround (start .args .size) (start .args .to-first) (start .args .to-second) (start .args .threshold) (start .args .offset) ys (start .args .near-first .now) near = c .covered .ensures ∙ covered-as (length ys) (c .before .before .before .before .before .before .before .count-below .ensures) last below (c .before .before .count-below2 .ensures) in
-    let read = around ∙ around-up (start .args .size) (start .args .to-first) (start .args .to-second) _ _ _ _ _ (omega (arith, c .before .before .before .before .before .before .before .before .if1 .left, c .before .before .before .before .before .before .before .before .before .greater .ensures)) in
-    (read, λ stored. read ∙ looked-reached (start .pre .0) stored _ _ _ _ _)
+    let read = c .covered .ensures ∙ covered-as (length ys) (c .before .before .before .before .before .before .before .count-below .ensures) last below (c .before .before .count-below2 .ensures) in
+    (read, λ stored. read ∙ looked-around (start .pre) stored _ _ _ _)
 
 pub count-around-spec : {M : Type 1} → statement M
 count-around-spec =
     tie.close
     (tie.spec
-    greater-requires
-    returns
     count-below-requires
     cast-first
     add-less
@@ -101,4 +87,4 @@ count-around-spec =
     cast-upto
     less-requires-3
     covered-requires
-    returns-2)
+    returns)

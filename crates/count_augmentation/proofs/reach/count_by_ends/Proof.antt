@@ -1,28 +1,18 @@
--- Nothing, the whole run's number, or what is read for the two ends, at most all.
-use mathlib.Core.Bool.{false}
+-- Nothing, or what is read for the two ends, at most all.
 use mathlib.Core.Path.{_≡_, _∙_}
 use native.Mathlib.Numerals.{add-one}
-use native.Mathlib.Omega.{arith}
 use Rattle.count_augmentation.specs.Reach.{lookedByEnds}
-use Rattle.count_augmentation.proofs.Laws.Reach.{nothing-read, whole-up, ends-up, looked-reached}
+use Rattle.count_augmentation.proofs.Laws.Reach.{nothing-read, looked-by-ends}
 use borrow.Author.Needs.{needs}
 use Rattle.count_augmentation.proofs.reach.count_by_ends.Statement.{statement}
 use Rattle.count_augmentation.proofs.reach.count_by_ends.Tie as tie
 
+-- what is read is what is reached where the numbers are right
 returns : tie.Need-returns
 returns c =
     let start = c .before .before .before .before .before in
-    let read = nothing-read (start .pre .0) (start .args .to-first) (start .args .to-second) (c .before .if1 .taken) (c .if2 .taken) ∙ ends-up _ _ _ (start .args .threshold) (start .args .offset) _ _ _ (omega arith) in
-    (read, λ stored. read ∙ looked-reached (start .pre .0) stored _ _ _ _ _)
-
-greater-requires : tie.Need-greater-requires
-greater-requires c κs = search needs
-
-returns-2 : tie.Need-returns-2
-returns-2 c =
-    let start = c .before .before .before .before .before .before in
-    let read = start .pre .1 ∙ whole-up (start .args .size) (start .args .to-first) (start .args .to-second) (start .args .threshold) (start .args .offset) (start .args .offsets .now) _ (start .args .near-second .now) false (omega (arith, c .if3 .taken, c .before .greater .ensures)) in
-    (read, λ stored. read ∙ looked-reached (start .pre .0) stored _ _ _ _ _)
+    let read = nothing-read (start .pre) (start .args .to-first) (start .args .to-second) (c .before .if1 .taken) (c .if2 .taken) in
+    (read, λ stored. read ∙ looked-by-ends (start .pre) stored _ _ _ _)
 
 count-below-requires : tie.Need-count-below-requires
 count-below-requires c κs = search needs
@@ -48,21 +38,18 @@ add-both c = search needs
 lesser-requires : tie.Need-lesser-requires
 lesser-requires c κs = search needs
 
-returns-3 : tie.Need-returns-3
+returns-2 : tie.Need-returns-2
 unfolding lookedByEnds
-returns-3 c =
-    let start = c .before .before .before .before .before .before .before .before .before .before in
-    let ends : c .lesser .result ≡ lookedByEnds (start .args .size) (start .args .to-first) (start .args .to-second) (start .args .offsets .now) (start .args .near-first .now) (start .args .near-second .now) = cc (add-one (start .args .size)) in
-    let read = ends ∙ ends-up (start .args .size) (start .args .to-first) (start .args .to-second) (start .args .threshold) (start .args .offset) _ _ _ (omega (arith, c .before .before .before .before .if3 .left, c .before .before .before .before .before .greater .ensures)) in
-    (read, λ stored. read ∙ looked-reached (start .pre .0) stored _ _ _ _ _)
+returns-2 c =
+    let start = c .before .before .before .before .before .before .before .before in
+    let read : c .lesser .result ≡ lookedByEnds (start .args .size) (start .args .to-first) (start .args .to-second) (start .args .offsets .now) (start .args .near-first .now) (start .args .near-second .now) = cc (add-one (start .args .size)) in
+    (read, λ stored. read ∙ looked-by-ends (start .pre) stored _ _ _ _)
 
 pub count-by-ends-spec : {M : Type 1} → statement M
 count-by-ends-spec =
     tie.close
     (tie.spec
     returns
-    greater-requires
-    returns-2
     count-below-requires
     cast-first
     add-less
@@ -71,4 +58,4 @@ count-by-ends-spec =
     cast-last
     add-both
     lesser-requires
-    returns-3)
+    returns-2)
