@@ -8,6 +8,7 @@ pub mod Ways
 pub mod Table
 pub mod Blocks
 pub mod Runs
+pub mod Whole
 pub mod Meeting
 pub mod Looping
 pub mod Halves

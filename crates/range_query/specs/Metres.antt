@@ -1,7 +1,7 @@
 -- The metres between two events, from the ways between the ends of their edges. Where there is no way they are beyond every threshold.
 use mathlib.Core.Bool.{cond}
 use mathlib.Core.List.{List}
-use Prim.Native.Nat.{ℕ, pred, _+_, _-_, _≤_, min}
+use Prim.Native.Nat.{ℕ, pred, _+_, _-_, _*_, _≤_, min}
 use lib.Dec.{eqb}
 use lib.ListN.{getD}
 use Rattle.model.specs.Distance.{difference}
@@ -36,6 +36,14 @@ meet p q other place y = min (min (p + y) (q + (other - y))) (difference place y
 
 unfoldable pub metres : EdgePair → ℕ → ℕ → ℕ
 metres g x y = meet (toFirst g x) (toSecond g x) (g .other) (placeOn g x) y
+
+-- the least of the four ways
+unfoldable pub leastWay : EdgePair → ℕ
+leastWay g = min (min (g .firsts) (g .onward)) (min (g .back) (g .seconds))
+
+-- the metres of the four routes between two places, added up: each offset and what is left of its edge are in two of them
+unfoldable pub fourRoutes : EdgePair → ℕ
+fourRoutes g = (((g .firsts + g .onward) + g .back) + g .seconds) + 2 * (g .size + g .other)
 
 -- lengths and ways within their limits
 pub record Ways (g : EdgePair) : Type 0 where

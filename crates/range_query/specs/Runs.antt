@@ -1,5 +1,4 @@
 -- What the loops over runs ask of the lists that they read, and the pairs that they count.
-use mathlib.Core.Bool.{false}
 use mathlib.Core.List.{List}
 use mathlib.Core.Path.{_≡_}
 use Prim.Native.Nat.{ℕ, suc, _-_, _≤_, _<_, min}
@@ -7,11 +6,11 @@ use lib.Dec.{leb}
 use lib.ListN.{length, getD}
 use Rattle.model.specs.Counting.{one-if}
 use Rattle.model.specs.Events.{event, IsEvent}
-use Rattle.model.specs.Limits.{maxEvents}
+use Rattle.model.specs.Limits.{maxEvents, maxThresholds}
 use Rattle.model.specs.Network.{Network}
 use Rattle.prepare.specs.EndTable.{EndTable}
 use Rattle.range_query.specs.Metres.{Ways, metres}
-use Rattle.range_query.specs.Tally.{Steps, sumBetween}
+use Rattle.range_query.specs.Tally.{Steps, Bucket, sumBetween}
 use Rattle.range_query.specs.declared.metres.EdgePair.{EdgePair}
 
 -- the pairs of a place from a up to before b with an earlier one from c up to before d, within t by a measure of two places
@@ -26,13 +25,9 @@ pairsFrom measure c a b t = sumBetween a b (λ i. sumBetween c i (λ j. one-if (
 unfoldable pub blockMetres : EdgePair → List ℕ → ℕ → ℕ → ℕ
 blockMetres g offsets i j = metres g (getD offsets i 0) (getD offsets j 0)
 
--- the edges are two, and every way between them is longer than the reach
-pub record Apart (g : EdgePair) (reach : ℕ) : Type 0 where
-  pub not-same : g .same ≡ false
-  pub firsts-beyond : reach < g .firsts
-  pub onward-beyond : reach < g .onward
-  pub back-beyond : reach < g .back
-  pub seconds-beyond : reach < g .seconds
+-- every two places of the two edges fall in bucket b, if b is a bucket
+pub record OneBucket (g : EdgePair) (steps : List ℕ) (b : ℕ) : Type 0 where
+  pub falls : b ≤ maxThresholds → (x y : ℕ) → x ≤ g .size → y ≤ g .other → Bucket steps (metres g x y) b
 
 -- two runs: places from a up to before b, and those of the other edge from c up to before d, which begin no later
 pub record Block (g : EdgePair) (offsets : List ℕ) (a b c d : ℕ) : Type 0 where

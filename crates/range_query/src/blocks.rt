@@ -1,12 +1,11 @@
 // Two runs at a time: the ways between the ends of their edges are read once, and every pair is tallied.
-ghost use mathlib.Core.Bool.{true};
 ghost use mathlib.Core.Path.{_≡_};
 ghost use Prim.Native.Nat.{pred, min, _+_, _-_, _*_, _≤_, _<_};
 ghost use lib.ListN.{length, getD};
 ghost use Rattle.model.specs.Network.{network};
 ghost use Rattle.prepare.specs.EndTable.{EndTable, TableEntry};
 ghost use Rattle.range_query.specs.Metres.{Ways, far, way, edgePair};
-ghost use Rattle.range_query.specs.Runs.{Apart, Block, blockMetres, pairsWithin};
+ghost use Rattle.range_query.specs.Runs.{Block, blockMetres, pairsWithin};
 ghost use Rattle.range_query.specs.Tally.{Steps, Added, Room};
 use crate::metres::EdgePair;
 use crate::metres::place_on;
@@ -17,7 +16,6 @@ use crate::metres::wide;
 use crate::tally::BUCKETS;
 use crate::tally::LADDER;
 use crate::tally::row;
-use model::lesser;
 
 pub(crate) fn earlier(a: usize, b: usize) -> usize
     ensures { λ r. ⌜ r ≡ min a b ⌝ }
@@ -59,16 +57,6 @@ pub(crate) fn edge_pair(
         seconds: way_between(nodes, table, second, other_second),
         same: i == j,
     }
-}
-
-// The edges are two, and none of the four ways is within the reach.
-pub(crate) fn is_apart(g: EdgePair, reach: u64) -> bool
-    ensures { λ r. ⌜ (r ≡ true → Apart g reach) ⌝ }
-{
-    if g.same {
-        return false;
-    }
-    reach < lesser(lesser(g.firsts, g.onward), lesser(g.back, g.seconds))
 }
 
 // Tallies every event of a run with the earlier ones of another run, or of the same.

@@ -6,5 +6,6 @@ mod metres;
 mod runs;
 mod sets;
 mod tally;
+mod whole;
 
 pub use sets::counts;

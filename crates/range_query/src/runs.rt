@@ -7,12 +7,10 @@ ghost use Rattle.model.specs.Network.{network};
 ghost use Rattle.range_query.specs.Metres.{metresAt};
 ghost use Rattle.range_query.specs.Runs.{RunsReady, pairsWithin, pairsFrom};
 ghost use Rattle.range_query.specs.Tally.{Added, Room};
-use crate::blocks::block;
 use crate::blocks::edge_pair;
-use crate::blocks::is_apart;
 use crate::tally::BUCKETS;
 use crate::tally::LADDER;
-use crate::tally::LAST_STEP;
+use crate::whole::tally_runs;
 
 // An entry of a list as a place.
 pub(crate) fn place(list: &[u32], k: usize) -> usize
@@ -22,7 +20,7 @@ pub(crate) fn place(list: &[u32], k: usize) -> usize
     list[k] as usize
 }
 
-// Two runs of one set, b no later than a: left at once where no way between their edges is within the greatest threshold.
+// Two runs of one set, b no later than a.
 fn meet_runs(
     nodes: u32,
     firsts: &[u32],
@@ -47,10 +45,7 @@ fn meet_runs(
     let e = place(edges, from);
     let f = place(edges, other_from);
     let g = edge_pair(nodes, firsts, seconds, lengths, table, e - 1, f - 1);
-    if is_apart(g, steps[LAST_STEP] as u64) {
-        return;
-    }
-    block(g, offsets, from, to, other_from, other_to, steps, buckets);
+    tally_runs(g, offsets, from, to, other_from, other_to, steps, buckets);
 }
 
 // A run with every run of its set up to itself, of which r is the first.

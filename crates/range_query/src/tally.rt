@@ -122,6 +122,20 @@ fn bucket_by_few(steps: &[u32; LADDER], shift: u32, cap: u64, greatest: u64, d: 
     if greatest < d { STEPS } else { found }
 }
 
+// The number of steps that do not admit d, asked for once: by its cell where cells have one step each, else by halving.
+pub(crate) fn bucket_of(steps: &[u32; LADDER], d: u64) -> usize
+    requires { ⌜ Steps (now steps) ⌝ }
+    ensures { λ r. ⌜ Bucket (now (steps .entry)) d r ⌝ }
+{
+    if steps[MOST_AT] != ALONE as u32 {
+        return bucket(steps, d);
+    }
+    let shift = steps[SHIFT_AT];
+    let greatest = wide(steps[LAST_STEP]);
+    let cap = cap_of(greatest, width_of(shift));
+    bucket_by_cell(steps, shift, cap, greatest, d)
+}
+
 // Tallies one event with every offset of a part of a run on the other edge, each distance by halving the steps.
 fn row_by_halves(
     ys: &[u32],

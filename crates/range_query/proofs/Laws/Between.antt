@@ -1,7 +1,7 @@
 -- Sums over the numbers from one place up to before another.
-use mathlib.Core.Path.{_≡_, ap, subst, _∙_}
-use Prim.Native.Nat.{ℕ, zero, suc, _+_, _-_, _≤_, _<_}
-use native.Mathlib.Nat.{add-zero, add-suc}
+use mathlib.Core.Path.{_≡_, sym, ap, subst, _∙_}
+use Prim.Native.Nat.{ℕ, zero, suc, _+_, _-_, _*_, _≤_, _<_}
+use native.Mathlib.Nat.{add-zero, add-suc, zero-mul, suc-mul}
 use native.Mathlib.Omega.{arith}
 use Rattle.model.specs.Counting.{sumBelow}
 use Rattle.model.proofs.Laws.Counting.{sum-below-cong, sum-below-add, sum-below-zero}
@@ -32,6 +32,17 @@ between-add a b f g = sum-below-add (b - a) _ _
 pub between-zero : (a b : ℕ) (f : ℕ → ℕ) → ((i : ℕ) → a ≤ i → i < b → f i ≡ 0) → sumBetween a b f ≡ 0
 unfolding sumBetween
 between-zero a b f h = sum-below-zero (b - a) _ (λ k l. h (a + k) (omega arith) (omega arith))
+
+-- of one number
+all-same : (m n : ℕ) → sumBelow m (λ i. n) ≡ m * n
+unfolding sumBelow
+all-same zero n = sym (zero-mul n)
+all-same (suc m) n = omega (arith, all-same m n, suc-mul m n)
+
+pub between-same : (a b n : ℕ) (f : ℕ → ℕ) → ((i : ℕ) → a ≤ i → i < b → f i ≡ n) → sumBetween a b f ≡ (b - a) * n
+unfolding sumBetween
+between-same a b n f h =
+    sum-below-cong (b - a) _ _ (λ k l. h (a + k) (omega arith) (omega arith)) ∙ all-same (b - a) n
 
 -- one stretch of n numbers after another
 joined : (a b n : ℕ) (f : ℕ → ℕ) → a ≤ b → sumBetween a (b + n) f ≡ sumBetween a b f + sumBetween b (b + n) f

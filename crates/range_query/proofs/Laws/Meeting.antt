@@ -1,6 +1,6 @@
 -- Two runs of one set: what their block asks, and what it adds.
 use mathlib.Core.List.{List}
-use mathlib.Core.Path.{_≡_, sym, ap, subst}
+use mathlib.Core.Path.{_≡_, ap}
 use Prim.Native.Nat.{ℕ, suc, pred, _-_, _*_, _≤_, _<_}
 use native.Mathlib.Nat.{le-trans}
 use native.Mathlib.Numerals.{add-one, sub-one}
@@ -9,11 +9,11 @@ use lib.ListN.{getD}
 use Rattle.model.specs.Network.{Network, size}
 use Rattle.prepare.proofs.Laws.RunPairs.{TwoRead}
 use Rattle.range_query.specs.Metres.{Ways, edgePair, metresAt}
-use Rattle.range_query.specs.Runs.{Apart, Block, RunsReady, pairsWithin, blockMetres}
+use Rattle.range_query.specs.Runs.{Block, RunsReady, pairsWithin, blockMetres}
 use Rattle.range_query.specs.Tally.{Steps, Added, Room}
 use Rattle.range_query.specs.declared.metres.EdgePair.{EdgePair}
-use Rattle.range_query.proofs.Laws.Runs.{pairs-cong, pairs-none, apart-beyond, bounds-rise, run-edge}
-use Rattle.range_query.proofs.Laws.Tally.{added-none, added-as}
+use Rattle.range_query.proofs.Laws.Runs.{pairs-cong, bounds-rise, run-edge}
+use Rattle.range_query.proofs.Laws.Tally.{added-as}
 
 -- the most pairs of two runs
 abbrev pub most : List ℕ → ℕ → ℕ → ℕ
@@ -41,12 +41,6 @@ module _ {net : Network} {table edges offsets bounds steps : List ℕ} {a b : �
   runs-metres i j h l m n =
       rw (w .runs .one-edge a i le (omega arith) h l, w .runs .one-edge b j (omega arith) (omega arith) m n, is)
 
-  -- none of their pairs is within a threshold
-  pub runs-apart : (buckets : List ℕ) → Apart g (getD steps 63 0) → Added steps buckets buckets (most bounds a b) (pairsWithin (metresAt net table edges offsets) (getD bounds a 0) (getD bounds (suc a) 0) (getD bounds b 0) (getD bounds (suc b) 0))
-  unfolding blockMetres
-  runs-apart buckets far-off =
-      added-as _ _ (omega arith) (λ k h. sym (pairs-none _ _ _ _ _ _ (λ i j p q r s. subst (λ n. getD steps k 0 < n) (runs-metres i j p q r s) (apart-beyond g (getD steps 63 0) (getD offsets i 0) (getD offsets j 0) (getD steps k 0) ways far-off (runs-block .on-other j r s) (w .rising .level k 63 (omega arith) (omega arith)) (w .rising .small k h))))) (added-none steps buckets)
-
   -- the pairs that their block adds
   pub runs-added : {old new : List ℕ} → Added steps old new (most bounds a b) (pairsWithin (blockMetres g offsets) (getD bounds a 0) (getD bounds (suc a) 0) (getD bounds b 0) (getD bounds (suc b) 0)) → Added steps old new (most bounds a b) (pairsWithin (metresAt net table edges offsets) (getD bounds a 0) (getD bounds (suc a) 0) (getD bounds b 0) (getD bounds (suc b) 0))
   runs-added = added-as _ _ (omega arith) (λ k h. pairs-cong _ _ _ _ _ _ _ runs-metres)
@@ -56,10 +50,6 @@ pub cut-pair : (net : Network) (table : List ℕ) {edges bounds : List ℕ} {a b
 cut-pair net table {edges} {bounds} {a} {b} cut is = rw (cut .edge-is, cut .other-edge-is, cut .from-is, cut .other-from-is, sub-one (getD edges (getD bounds a 0) 0), sub-one (getD edges (getD bounds b 0) 0)) at is
 
 module _ {net : Network} {table edges offsets bounds steps : List ℕ} {a b : ℕ} (w : RunsReady net table edges offsets bounds steps b (suc a)) (le : b ≤ a) {from to other-from other-to e f : ℕ} (cut : TwoRead edges bounds a b from to other-from other-to e f) (g : EdgePair) (is : g ≡ edgePair net table (e - 1) (f - 1)) (ways : Ways g) where
-  -- none of the pairs is within a threshold
-  pub cut-apart : (buckets : List ℕ) → Apart g (getD steps 63 0) → Added steps buckets buckets (most bounds a b) (pairsWithin (metresAt net table edges offsets) (getD bounds a 0) (getD bounds (suc a) 0) (getD bounds b 0) (getD bounds (suc b) 0))
-  cut-apart = runs-apart w le g ways (cut-pair net table cut is)
-
   -- what the block of the two runs asks
   pub cut-block : (buckets : List ℕ) → Room buckets (most bounds a b) → Block g offsets from to other-from other-to × Steps steps × Room buckets ((to - from) * (other-to - other-from))
   cut-block buckets room =

@@ -1,20 +1,18 @@
 -- The runs of a set: each with those up to itself, and all of them.
+use mathlib.Core.Bool.{Bool}
 use mathlib.Core.List.{List}
 use mathlib.Core.Path.{_≡_, sym, ap, subst, _∙_}
-use Prim.Native.Nat.{ℕ, suc, pred, _+_, _-_, _≤_, _<_, min}
+use Prim.Native.Nat.{ℕ, suc, pred, _+_, _-_, _*_, _≤_, _<_, min}
+use native.Mathlib.Nat.{mul-assoc}
 use native.Mathlib.Omega.{arith}
-use borrow.Author.Tests.{lt-leb}
 use lib.Dec.{leb}
 use lib.ListN.{length, getD}
 use Rattle.model.specs.Counting.{one-if}
-use Rattle.model.specs.Distance.{difference}
 use Rattle.model.specs.Network.{Network, size}
 use Rattle.model.proofs.Laws.Pieces.{rise}
-use Rattle.range_query.specs.Metres.{Ways, far, meet, metres, toFirst, toSecond, placeOn}
-use Rattle.range_query.specs.Runs.{Apart, RunsReady, pairsWithin, pairsFrom}
+use Rattle.range_query.specs.Runs.{RunsReady, pairsWithin, pairsFrom}
 use Rattle.range_query.specs.Tally.{sumBetween}
-use Rattle.range_query.specs.declared.metres.EdgePair.{EdgePair}
-use Rattle.range_query.proofs.Laws.Between.{between-cong, between-add, between-zero, between-join}
+use Rattle.range_query.proofs.Laws.Between.{between-cong, between-add, between-same, between-join}
 
 -- pairs by measures that agree on them
 pub pairs-cong : (m m′ : ℕ → ℕ → ℕ) (a b c d t : ℕ) → ((i j : ℕ) → a ≤ i → i < b → c ≤ j → j < d → m i j ≡ m′ i j) → pairsWithin m a b c d t ≡ pairsWithin m′ a b c d t
@@ -22,11 +20,16 @@ unfolding pairsWithin
 pairs-cong m m′ a b c d t same =
     between-cong a b _ _ (λ i f l. between-cong c (min d i) _ _ (λ j g k. ap (λ x. one-if (leb x t)) (same i j f l g (omega arith))))
 
--- pairs none of which is within t
-pub pairs-none : (m : ℕ → ℕ → ℕ) (a b c d t : ℕ) → ((i j : ℕ) → a ≤ i → i < b → c ≤ j → j < d → t < m i j) → pairsWithin m a b c d t ≡ 0
-unfolding pairsWithin one-if
-pairs-none m a b c d t beyond =
-    between-zero a b _ (λ i f l. between-zero c (min d i) _ (λ j g k. ap one-if (lt-leb (m i j) t (beyond i j f l g (omega arith)))))
+-- pairs all of which are within t, or none, the earlier places all before the others
+pub pairs-same : (m : ℕ → ℕ → ℕ) (a b c d t : ℕ) (v : Bool) → d ≤ a → ((i j : ℕ) → a ≤ i → i < b → c ≤ j → j < d → leb (m i j) t ≡ v) → pairsWithin m a b c d t ≡ (b - a) * (d - c) * one-if v
+unfolding pairsWithin
+pairs-same m a b c d t v before same =
+    between-same a b ((d - c) * one-if v) _ row ∙ sym (mul-assoc (b - a) (d - c) (one-if v))
+  where
+    row : (i : ℕ) → a ≤ i → i < b → sumBetween c (min d i) (λ j. one-if (leb (m i j) t)) ≡ (d - c) * one-if v
+    row i f l =
+        let all : min d i ≡ d = omega arith in
+        rw all (between-same c d (one-if v) _ (λ j g k. ap one-if (same i j f l g k)))
 
 -- with one stretch of earlier places after another
 pub pairs-join : (m : ℕ → ℕ → ℕ) (a b c d e t : ℕ) → c ≤ d → d ≤ e → d ≤ a → pairsWithin m a b c d t + pairsWithin m a b d e t ≡ pairsWithin m a b c e t
@@ -44,21 +47,6 @@ pub pairs-all : (m : ℕ → ℕ → ℕ) (a b c t : ℕ) → pairsWithin m a b 
 unfolding pairsWithin pairsFrom
 pairs-all m a b c t =
     between-cong a b _ _ (λ i f l. ap (λ n. sumBetween c n (λ j. one-if (leb (m i j) t))) {x = min b i} {y = i} (omega arith))
-
--- beyond the reach of every way
-pub apart-beyond : (g : EdgePair) (reach x y t : ℕ) → Ways g → Apart g reach → y ≤ g .other → t ≤ reach → t < 4294967296 → t < metres g x y
-unfolding metres meet placeOn difference
-apart-beyond g reach x y t w a on h k =
-    let p : t < toFirst g x = by-first in
-    let q : t < toSecond g x = by-second in
-    let z : placeOn g x ≡ far = simp (a .not-same) in
-    omega (arith, w .other-to)
-  where
-    by-first : t < toFirst g x
-    by-first = unfold toFirst in omega (arith, a .firsts-beyond, a .back-beyond)
-
-    by-second : t < toSecond g x
-    by-second = unfold toSecond in omega (arith, a .onward-beyond, a .seconds-beyond)
 
 module _ {net : Network} {table edges offsets bounds steps : List ℕ} {r q : ℕ} (w : RunsReady net table edges offsets bounds steps r q) where
   -- the bounds rise

@@ -1,27 +1,12 @@
 -- What is read for two edges is what the pair of them has.
-use mathlib.Core.Bool.{false}
 use mathlib.Core.List.{List}
 use mathlib.Core.Path.{_≡_}
-use Prim.Native.Nat.{ℕ, _<_, min}
-use native.Mathlib.Omega.{arith}
+use Prim.Native.Nat.{ℕ}
 use lib.Dec.{eqb}
 use Rattle.model.specs.Network.{Network, first, second, size}
 use Rattle.model.specs.Location.{endNode}
 use Rattle.prepare.specs.Prepared.{entry}
 use Rattle.range_query.specs.Metres.{way, edgePair, between}
-use Rattle.range_query.specs.Runs.{Apart}
-use Rattle.range_query.specs.declared.metres.EdgePair.{EdgePair}
-
--- none of four ways is within the reach
-pub apart : (g : EdgePair) (reach : ℕ) → g .same ≡ false → reach < min (min (g .firsts) (g .onward)) (min (g .back) (g .seconds)) → Apart g reach
-apart g reach e h =
-    record {
-      not-same = e;
-      firsts-beyond = omega arith;
-      onward-beyond = omega arith;
-      back-beyond = omega arith;
-      seconds-beyond = omega arith;
-    }
 
 -- what is read for two edges is the pair of them
 pub edge-pair-as : (net : Network) (table : List ℕ) (i j : ℕ) {a b c d e f : ℕ} → a ≡ size net i → b ≡ size net j → c ≡ way (entry net table (first net i) (first net j)) → d ≡ way (entry net table (first net i) (second net j)) → e ≡ way (entry net table (second net i) (first net j)) → f ≡ way (entry net table (second net i) (second net j)) → record { size = a; other = b; firsts = c; onward = d; back = e; seconds = f; same = eqb i j } ≡ edgePair net table i j

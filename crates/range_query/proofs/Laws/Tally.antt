@@ -2,8 +2,9 @@
 use mathlib.Core.Bool.{Bool}
 use mathlib.Core.List.{List}
 use mathlib.Core.Path.{_≡_, refl, sym, ap, _∙_}
-use Prim.Native.Nat.{ℕ, zero, suc, _+_, _≤_, _<_}
+use Prim.Native.Nat.{ℕ, zero, suc, _+_, _*_, _≤_, _<_}
 use native.Mathlib.Decide.{ℕ-discrete, decLt}
+use native.Mathlib.Nat.{mul-zero, mul-one, one-mul, mul-le-mul-left}
 use native.Mathlib.Numerals.{add-one}
 use native.Mathlib.Omega.{arith}
 use borrow.Author.Tests.{le-leb, lt-leb, lt-ltb, le-ltb}
@@ -34,31 +35,31 @@ up-to-grows buckets j (suc k) h = go (ℕ-discrete j (suc k)) (up-to-grows bucke
     go (yes p) below = omega (arith, ap (upTo buckets) p)
     go (no p) below = omega (arith, below (omega arith))
 
--- one more in one bucket, in a sum over the first n buckets
-raised : (buckets : List ℕ) (b n : ℕ) → b < length buckets → sumBelow n (λ i. getD (set buckets b (getD buckets b 0 + 1)) i 0) ≡ sumBelow n (λ i. getD buckets i 0) + one-if (ltb b n)
+-- m more in one bucket, in a sum over the first n buckets
+raised : (buckets : List ℕ) (b m n : ℕ) → b < length buckets → sumBelow n (λ i. getD (set buckets b (getD buckets b 0 + m)) i 0) ≡ sumBelow n (λ i. getD buckets i 0) + m * one-if (ltb b n)
 unfolding sumBelow one-if
-raised buckets b zero h = simp (le-ltb b 0 (omega arith))
-raised buckets b (suc n) h = go (ℕ-discrete n b) (raised buckets b n h)
+raised buckets b m zero h = simp (le-ltb b 0 (omega arith), mul-zero)
+raised buckets b m (suc n) h = go (ℕ-discrete n b) (raised buckets b m n h)
   where
-    go : Dec (n ≡ b) → sumBelow n (λ i. getD (set buckets b (getD buckets b 0 + 1)) i 0) ≡ sumBelow n (λ i. getD buckets i 0) + one-if (ltb b n) → sumBelow (suc n) (λ i. getD (set buckets b (getD buckets b 0 + 1)) i 0) ≡ sumBelow (suc n) (λ i. getD buckets i 0) + one-if (ltb b (suc n))
+    go : Dec (n ≡ b) → sumBelow n (λ i. getD (set buckets b (getD buckets b 0 + m)) i 0) ≡ sumBelow n (λ i. getD buckets i 0) + m * one-if (ltb b n) → sumBelow (suc n) (λ i. getD (set buckets b (getD buckets b 0 + m)) i 0) ≡ sumBelow (suc n) (λ i. getD buckets i 0) + m * one-if (ltb b (suc n))
     go (yes p) below =
-        let same : getD (set buckets b (getD buckets b 0 + 1)) n 0 ≡ getD buckets n 0 + 1 = rw p (getD-set-same buckets b (getD buckets b 0 + 1) 0 h) in
-        let none : one-if (ltb b n) ≡ 0 = simp (le-ltb b n (omega arith)) in
-        let some : one-if (ltb b (suc n)) ≡ 1 = simp (lt-ltb b (suc n) (omega arith)) in
+        let same : getD (set buckets b (getD buckets b 0 + m)) n 0 ≡ getD buckets n 0 + m = rw p (getD-set-same buckets b (getD buckets b 0 + m) 0 h) in
+        let none : m * one-if (ltb b n) ≡ 0 = simp (le-ltb b n (omega arith), mul-zero) in
+        let some : m * one-if (ltb b (suc n)) ≡ m = simp (lt-ltb b (suc n) (omega arith), mul-one) in
         omega arith
     go (no p) below =
-        let same : getD (set buckets b (getD buckets b 0 + 1)) n 0 ≡ getD buckets n 0 = getD-set-other buckets b n (getD buckets b 0 + 1) 0 p in
-        let kept : one-if (ltb b (suc n)) ≡ one-if (ltb b n) = ap one-if (past (decLt b n)) in
+        let same : getD (set buckets b (getD buckets b 0 + m)) n 0 ≡ getD buckets n 0 = getD-set-other buckets b n (getD buckets b 0 + m) 0 p in
+        let kept : m * one-if (ltb b (suc n)) ≡ m * one-if (ltb b n) = ap (λ x. m * one-if x) (past (decLt b n)) in
         omega arith
       where
         past : Dec (b < n) → ltb b (suc n) ≡ ltb b n
         past (yes l) = lt-ltb b (suc n) (omega arith) ∙ sym (lt-ltb b n l)
         past (no l) = le-ltb b (suc n) (omega arith) ∙ sym (le-ltb b n (omega arith))
 
--- one more in one bucket
-pub up-to-raised : (buckets : List ℕ) (b k : ℕ) → b < length buckets → upTo (set buckets b (getD buckets b 0 + 1)) k ≡ upTo buckets k + one-if (leb b k)
+-- m more in one bucket
+up-to-raised : (buckets : List ℕ) (b m k : ℕ) → b < length buckets → upTo (set buckets b (getD buckets b 0 + m)) k ≡ upTo buckets k + m * one-if (leb b k)
 unfolding upTo
-up-to-raised buckets b k h = raised buckets b (suc k) h ∙ ap (λ x. upTo buckets k + one-if x) (reached (decLt k b))
+up-to-raised buckets b m k h = raised buckets b m (suc k) h ∙ ap (λ x. upTo buckets k + m * one-if x) (reached (decLt k b))
   where
     reached : Dec (k < b) → ltb b (suc k) ≡ leb b k
     reached (yes l) = le-ltb b (suc k) (omega arith) ∙ sym (lt-leb b k l)
@@ -78,14 +79,19 @@ pub added-as : {steps old new : List ℕ} {m : ℕ} {f : ℕ → ℕ} (n : ℕ) 
 added-as n g le same a =
     record { tallied = λ k h. omega (arith, a .tallied k h, same k h); total = omega (arith, a .total); long = a .long }
 
--- one pair, counted in its bucket
-pub added-one : (steps buckets : List ℕ) (d b : ℕ) → length buckets ≡ 65 → Bucket steps d b → Added steps buckets (set buckets b (getD buckets b 0 + 1)) 1 (λ t. one-if (leb d t))
-added-one steps buckets d b long w =
+-- m pairs, counted in one bucket
+pub added-many : (steps buckets : List ℕ) (b m : ℕ) (count : ℕ → ℕ) → length buckets ≡ 65 → b ≤ 64 → ((k : ℕ) → k < 64 → count (getD steps k 0) ≡ m * one-if (leb b k)) → Added steps buckets (set buckets b (getD buckets b 0 + m)) m count
+added-many steps buckets b m count long fits same =
     record {
-      tallied = λ k h. up-to-raised buckets b k (omega (arith, w .fits)) ∙ ap (λ x. upTo buckets k + one-if x) (w .admits k h);
-      total = omega (arith, up-to-raised buckets b 64 (omega (arith, w .fits)), one-if-one (leb b 64));
-      long = length-set buckets b (getD buckets b 0 + 1);
+      tallied = λ k h. up-to-raised buckets b m k (omega arith) ∙ ap (λ x. upTo buckets k + x) (sym (same k h));
+      total = omega (arith, up-to-raised buckets b m 64 (omega arith), mul-le-mul-left m (one-if-one (leb b 64)), mul-one m);
+      long = length-set buckets b (getD buckets b 0 + m);
     }
+
+-- one pair, counted in its bucket
+added-one : (steps buckets : List ℕ) (d b : ℕ) → length buckets ≡ 65 → Bucket steps d b → Added steps buckets (set buckets b (getD buckets b 0 + 1)) 1 (λ t. one-if (leb d t))
+added-one steps buckets d b long w =
+    added-many steps buckets b 1 (λ t. one-if (leb d t)) long (w .fits) (λ k h. ap one-if (sym (w .admits k h)) ∙ sym (one-mul (one-if (leb b k))))
 
 -- one more pair of a row, whose metres are m of its number
 pub row-more : {steps old : List ℕ} (buckets : List ℕ) (m : ℕ → ℕ) (j b : ℕ) {d : ℕ} → d ≡ m j → length old ≡ 65 → Added steps old buckets j (λ t. countBelow j (λ i. leb (m i) t)) → Bucket steps d b → Added steps old (set buckets b (getD buckets b 0 + 1)) (j + 1) (λ t. countBelow (j + 1) (λ i. leb (m i) t))

@@ -1,9 +1,9 @@
--- Either no way is within the greatest threshold and there is nothing to add, or the block adds every pair.
+-- The runs are those of two edges of the network.
 use Prim.Native.Nat.{_-_, _≤_, _<_}
 use native.Mathlib.Omega.{arith}
 use lib.ListN.{length}
 use Rattle.prepare.proofs.Laws.RunPairs.{TwoRead}
-use Rattle.range_query.proofs.Laws.Meeting.{cut-apart, cut-block, cut-added}
+use Rattle.range_query.proofs.Laws.Meeting.{cut-block, cut-added}
 use Rattle.range_query.proofs.Laws.Runs.{run-named, run-listed}
 use borrow.Author.Needs.{needs}
 use Rattle.range_query.proofs.runs.meet_runs.Statement.{statement}
@@ -61,23 +61,11 @@ sub-edge-pair-2 c = second-named c .0
 edge-pair-requires : tie.Need-edge-pair-requires
 edge-pair-requires c κs = (c .before .before .before .before .before .before .before .before .before .before .before .before .before .pre .0 .held, first-named c .1, second-named c .1)
 
-element-copy-out-is-apart : tie.Need-element-copy-out-is-apart
-element-copy-out-is-apart c = search needs
-
-cast-is-apart : tie.Need-cast-is-apart
-cast-is-apart c = omega (arith, c .before .before .before .before .before .before .before .before .before .before .before .before .before .before .before .pre .0 .rising .small 63 (omega arith))
-
-is-apart-requires : tie.Need-is-apart-requires
-is-apart-requires c κs = search needs
+tally-runs-requires : tie.Need-tally-runs-requires
+tally-runs-requires c κs = cut-block (c .before .before .before .before .before .before .before .before .before .before .before .before .before .before .before .pre .0) (c .before .before .before .before .before .before .before .before .before .before .before .before .before .before .before .pre .1) (read (c .before .before)) _ (c .before .edge-pair .ensures .0) (c .before .edge-pair .ensures .1) _ (c .before .before .before .before .before .before .before .before .before .before .before .before .before .before .before .pre .2)
 
 returns : tie.Need-returns
-returns c = cut-apart (c .before .before .before .before .before .before .before .before .before .before .before .before .before .before .before .before .before .pre .0) (c .before .before .before .before .before .before .before .before .before .before .before .before .before .before .before .before .before .pre .1) (read (c .before .before .before .before)) _ (c .before .before .before .edge-pair .ensures .0) (c .before .before .before .edge-pair .ensures .1) _ (c .before .is-apart .ensures (c .if1 .taken))
-
-block-requires : tie.Need-block-requires
-block-requires c κs = cut-block (c .before .before .before .before .before .before .before .before .before .before .before .before .before .before .before .before .before .before .pre .0) (c .before .before .before .before .before .before .before .before .before .before .before .before .before .before .before .before .before .before .pre .1) (read (c .before .before .before .before .before)) _ (c .before .before .before .before .edge-pair .ensures .0) (c .before .before .before .before .edge-pair .ensures .1) _ (c .before .before .before .before .before .before .before .before .before .before .before .before .before .before .before .before .before .before .pre .2)
-
-returns-2 : tie.Need-returns-2
-returns-2 c = cut-added (c .before .before .before .before .before .before .before .before .before .before .before .before .before .before .before .before .before .before .before .pre .0) (c .before .before .before .before .before .before .before .before .before .before .before .before .before .before .before .before .before .before .before .pre .1) (read (c .before .before .before .before .before .before)) _ (c .before .before .before .before .before .edge-pair .ensures .0) (c .before .before .before .before .before .edge-pair .ensures .1) (c .block .ensures)
+returns c = cut-added (c .before .before .before .before .before .before .before .before .before .before .before .before .before .before .before .before .pre .0) (c .before .before .before .before .before .before .before .before .before .before .before .before .before .before .before .before .pre .1) (read (c .before .before .before)) _ (c .before .before .edge-pair .ensures .0) (c .before .before .edge-pair .ensures .1) (c .tally-runs .ensures)
 
 pub meet-runs-spec : {M : Type 1} → statement M
 meet-runs-spec =
@@ -94,9 +82,5 @@ meet-runs-spec =
     sub-edge-pair
     sub-edge-pair-2
     edge-pair-requires
-    element-copy-out-is-apart
-    cast-is-apart
-    is-apart-requires
-    returns
-    block-requires
-    returns-2)
+    tally-runs-requires
+    returns)

@@ -1,0 +1,59 @@
+-- All at once in one bucket, or event by event.
+use Rattle.range_query.proofs.Laws.Whole.{tallied-at-once, takes-all}
+use borrow.Author.Needs.{needs}
+use native.Mathlib.Omega.{arith}
+use Rattle.range_query.proofs.whole.tally_runs.Statement.{statement}
+use Rattle.range_query.proofs.whole.tally_runs.Tie as tie
+
+one-bucket-requires : tie.Need-one-bucket-requires
+one-bucket-requires c κs = search needs
+
+sub-pairs : tie.Need-sub-pairs
+sub-pairs c = search needs
+
+sub-pairs-2 : tie.Need-sub-pairs-2
+sub-pairs-2 c = search needs
+
+mul-pairs : tie.Need-mul-pairs
+mul-pairs c = search needs
+
+cast-buckets : tie.Need-cast-buckets
+cast-buckets c = search needs
+
+mul-buckets : tie.Need-mul-buckets
+mul-buckets c = search needs
+
+element-copy-out-buckets : tie.Need-element-copy-out-buckets
+element-copy-out-buckets c = search needs
+
+add-buckets : tie.Need-add-buckets
+add-buckets c = record { fits = takes-all _ (c .before .before .before .before .before .pre .2) (omega (arith, c .before .if2 .taken)) }
+
+element-write-buckets : tie.Need-element-write-buckets
+element-write-buckets c = search needs
+
+returns : tie.Need-returns
+returns c = tallied-at-once _ _ (c .before .before .before .before .before .pre .0) (c .before .before .before .if1 .taken) (c .before .before .one-bucket .ensures) (omega (arith, c .before .if2 .taken)) (c .before .before .before .before .before .pre .2)
+
+block-requires : tie.Need-block-requires
+block-requires c κs = search needs
+
+returns-2 : tie.Need-returns-2
+returns-2 c = search needs
+
+pub tally-runs-spec : {M : Type 1} → statement M
+tally-runs-spec =
+    tie.close
+    (tie.spec
+    one-bucket-requires
+    sub-pairs
+    sub-pairs-2
+    mul-pairs
+    cast-buckets
+    mul-buckets
+    element-copy-out-buckets
+    add-buckets
+    element-write-buckets
+    returns
+    block-requires
+    returns-2)
