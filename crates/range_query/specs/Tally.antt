@@ -7,6 +7,7 @@ use lib.Dec.{leb}
 use lib.ListN.{length, getD}
 use Rattle.model.specs.Counting.{sumBelow}
 use Rattle.model.specs.Limits.{maxThresholds}
+use Rattle.range_query.specs.Metres.{meet}
 
 -- the places of the list of steps: the step of the greatest threshold, behind the steps the shift and the most steps of a cell, and
 -- behind them the cells
@@ -95,6 +96,14 @@ pub record Spread (ts steps : List ℕ) : Type 0 where
 pub record Bucket (steps : List ℕ) (d b : ℕ) : Type 0 where
   pub fits : b ≤ maxThresholds
   pub admits : (k : ℕ) → k < maxThresholds → leb b k ≡ leb d (getD steps k 0)
+
+-- all from least up to most metres fall in bucket r, if r is a bucket
+pub record Between (steps : List ℕ) (least most r : ℕ) : Type 0 where
+  pub falls : r ≤ maxThresholds → (d : ℕ) → least ≤ d → d ≤ most → Bucket steps d r
+
+-- an event and every place of another edge fall in bucket r, if r is a bucket
+pub record RowBucket (p q other place : ℕ) (steps : List ℕ) (r : ℕ) : Type 0 where
+  pub falls : r ≤ maxThresholds → (y : ℕ) → y ≤ other → Bucket steps (meet p q other place y) r
 
 -- the sum of the first buckets, up to number k
 unfoldable pub upTo : List ℕ → ℕ → ℕ

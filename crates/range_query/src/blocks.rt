@@ -15,7 +15,8 @@ use crate::metres::way;
 use crate::metres::wide;
 use crate::tally::BUCKETS;
 use crate::tally::LADDER;
-use crate::tally::row;
+use crate::whole::one_bucket;
+use crate::whole::tally_row;
 
 pub(crate) fn earlier(a: usize, b: usize) -> usize
     ensures { λ r. ⌜ r ≡ min a b ⌝ }
@@ -59,8 +60,8 @@ pub(crate) fn edge_pair(
     }
 }
 
-// Tallies every event of a run with the earlier ones of another run, or of the same.
-pub(crate) fn block(
+// Tallies every event of a run with the earlier ones of another run, or of the same, event by event.
+fn block(
     g: EdgePair,
     offsets: &[u32],
     from: usize,
@@ -81,7 +82,7 @@ pub(crate) fn block(
         let p = to_first(g, x);
         let q = to_second(g, x);
         let place = place_on(g, x);
-        row(
+        tally_row(
             &offsets[other_from..end],
             p,
             q,
@@ -92,4 +93,29 @@ pub(crate) fn block(
         );
         i += 1;
     }
+}
+
+// The same, all at once if the runs are two and their pairs fall in one bucket.
+pub(crate) fn tally_runs(
+    g: EdgePair,
+    offsets: &[u32],
+    from: usize,
+    to: usize,
+    other_from: usize,
+    other_to: usize,
+    steps: &[u32; LADDER],
+    buckets: &mut [u32; BUCKETS],
+)
+    requires { ⌜ Block g (now offsets) from to «other_from» «other_to» × Steps (now steps) × Room (now buckets) ((to - from) * («other_to» - «other_from»)) ⌝ }
+    ensures { λ _. ⌜ Added (now (steps .entry)) (now (buckets .entry)) (now (buckets .exit)) ((to - from) * («other_to» - «other_from»)) (pairsWithin (blockMetres g (now (offsets .entry))) from to «other_from» «other_to») ⌝ }
+{
+    if other_to <= from {
+        let found = one_bucket(g, steps);
+        if found < BUCKETS {
+            let pairs = (to - from) * (other_to - other_from);
+            buckets[found] += pairs as u32;
+            return;
+        }
+    }
+    block(g, offsets, from, to, other_from, other_to, steps, buckets);
 }

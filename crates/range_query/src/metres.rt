@@ -6,7 +6,10 @@ use model::apart;
 use model::lesser;
 
 // Stands for no way: above every threshold, and so are the sums it stands in.
-const FAR: u64 = 1099511627776;
+pub(crate) const FAR: u64 = 1099511627776;
+
+// One more than the greatest threshold that there may be.
+pub(crate) const BEYOND: u64 = 4294967296;
 
 // Two edges: their lengths, the ways from each end of one to each end of the other, and whether they are one edge.
 pub struct EdgePair {

@@ -8,9 +8,9 @@ ghost use Rattle.range_query.specs.Metres.{metresAt};
 ghost use Rattle.range_query.specs.Runs.{RunsReady, pairsWithin, pairsFrom};
 ghost use Rattle.range_query.specs.Tally.{Added, Room};
 use crate::blocks::edge_pair;
+use crate::blocks::tally_runs;
 use crate::tally::BUCKETS;
 use crate::tally::LADDER;
-use crate::whole::tally_runs;
 
 // An entry of a list as a place.
 pub(crate) fn place(list: &[u32], k: usize) -> usize

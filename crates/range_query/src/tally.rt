@@ -6,7 +6,7 @@ ghost use lib.Dec.{leb, ltb};
 ghost use lib.ListN.{length, getD};
 ghost use Rattle.model.specs.Counting.{countBelow};
 ghost use Rattle.range_query.specs.Metres.{meet};
-ghost use Rattle.range_query.specs.Tally.{lastStep, shiftEnd, capOf, Steps, Bracket, Bucket, Celled, CellsAsked, Named, Added, RowFits};
+ghost use Rattle.range_query.specs.Tally.{lastStep, shiftEnd, capOf, Steps, Bracket, Bucket, Between, Celled, CellsAsked, Named, Added, RowFits};
 use crate::metres::meet;
 use crate::metres::wide;
 use model::Thresholds;
@@ -134,6 +134,21 @@ pub(crate) fn bucket_of(steps: &[u32; LADDER], d: u64) -> usize
     let greatest = wide(steps[LAST_STEP]);
     let cap = cap_of(greatest, width_of(shift));
     bucket_by_cell(steps, shift, cap, greatest, d)
+}
+
+// The bucket that all from least up to most metres fall in; BUCKETS where they may fall in several.
+pub(crate) fn bucket_between(steps: &[u32; LADDER], least: u64, most: u64) -> usize
+    requires { ⌜ Steps (now steps) ⌝ }
+    ensures { λ r. ⌜ Between (now (steps .entry)) least most r ⌝ }
+{
+    if wide(steps[LAST_STEP]) < least {
+        return STEPS;
+    }
+    let step = bucket_of(steps, least);
+    if most <= wide(steps[step]) {
+        return step;
+    }
+    BUCKETS
 }
 
 // Tallies one event with every offset of a part of a run on the other edge, each distance by halving the steps.

@@ -34,7 +34,7 @@ unfolding sumBetween
 between-zero a b f h = sum-below-zero (b - a) _ (λ k l. h (a + k) (omega arith) (omega arith))
 
 -- of one number
-all-same : (m n : ℕ) → sumBelow m (λ i. n) ≡ m * n
+pub all-same : (m n : ℕ) → sumBelow m (λ i. n) ≡ m * n
 unfolding sumBelow
 all-same zero n = sym (zero-mul n)
 all-same (suc m) n = omega (arith, all-same m n, suc-mul m n)

@@ -39,20 +39,20 @@ to-second-requires c κs = (c .before .before .before .before .before .before .b
 place-on-requires : tie.Need-place-on-requires Inv-loop μ-loop
 place-on-requires c κs = search needs
 
-mul-row : tie.Need-mul-row Inv-loop μ-loop
-mul-row c = search needs
+mul-tally-row : tie.Need-mul-tally-row Inv-loop μ-loop
+mul-tally-row c = search needs
 
-sub-row : tie.Need-sub-row Inv-loop μ-loop
-sub-row c = search needs
+sub-tally-row : tie.Need-sub-tally-row Inv-loop μ-loop
+sub-tally-row c = search needs
 
-part-row-start : tie.Need-part-row-start Inv-loop μ-loop
-part-row-start c = search needs
+part-tally-row-start : tie.Need-part-tally-row-start Inv-loop μ-loop
+part-tally-row-start c = search needs
 
-part-row-end : tie.Need-part-row-end Inv-loop μ-loop
-part-row-end c = search needs
+part-tally-row-end : tie.Need-part-tally-row-end Inv-loop μ-loop
+part-tally-row-end c = search needs
 
-row-requires : tie.Need-row-requires Inv-loop μ-loop
-row-requires c κs = let x = c .before .before .before .before .before .before .wide .ensures in row-fits (c .before .before .before .before .before .before .before .before .before .before .before .pre .0) _ _ _ _ (c .before .before .before .before .before .before .before .before .before .before .before .pre .1) (c .before .before .before .before .before .before .before .before .before .before .before .pre .2) (c .before .before .before .before .before .before .before .before .before .loop .inv .2) (c .before .before .before .before .before .before .before .before .before .loop .inv .0) (c .before .before .before .before .before .before .before .before .loop-test .taken) (c .before .before .before .before .before .earlier .ensures) (rw x at (c .before .before .before .before .to-first .ensures)) (rw x at (c .before .before .before .to-second .ensures))
+tally-row-requires : tie.Need-tally-row-requires Inv-loop μ-loop
+tally-row-requires c κs = let x = c .before .before .before .before .before .before .wide .ensures in row-fits (c .before .before .before .before .before .before .before .before .before .before .before .pre .0) _ _ _ _ (c .before .before .before .before .before .before .before .before .before .before .before .pre .1) (c .before .before .before .before .before .before .before .before .before .before .before .pre .2) (c .before .before .before .before .before .before .before .before .before .loop .inv .2) (c .before .before .before .before .before .before .before .before .before .loop .inv .0) (c .before .before .before .before .before .before .before .before .loop-test .taken) (c .before .before .before .before .before .earlier .ensures) (rw x at (c .before .before .before .before .to-first .ensures)) (rw x at (c .before .before .before .to-second .ensures))
 
 add-i : tie.Need-add-i Inv-loop μ-loop
 add-i c = search needs
@@ -61,7 +61,7 @@ loop-less : tie.Need-loop-less Inv-loop μ-loop
 loop-less c = falls _ _ (c .before .before .before .before .before .before .before .before .before .loop-test .taken)
 
 loop-again : tie.Need-loop-again Inv-loop μ-loop
-loop-again c = let x = c .before .before .before .before .before .before .before .wide .ensures in (omega arith, omega arith, block-more (c .before .before .before .before .before .before .before .before .before .before .before .before .pre .0) _ _ _ _ _ (c .before .before .before .before .before .before .before .before .before .before .loop .inv .2) (c .before .before .before .before .before .before .before .before .before .before .loop .inv .0) (c .before .before .before .before .before .before .before .before .before .loop-test .taken) (c .before .before .before .before .before .before .earlier .ensures) (rw x at (c .before .before .before .before .before .to-first .ensures)) (rw x at (c .before .before .before .before .to-second .ensures)) (rw x at (c .before .before .before .place-on .ensures)) (c .row .ensures))
+loop-again c = let x = c .before .before .before .before .before .before .before .wide .ensures in (omega arith, omega arith, block-more (c .before .before .before .before .before .before .before .before .before .before .before .before .pre .0) _ _ _ _ _ (c .before .before .before .before .before .before .before .before .before .before .loop .inv .2) (c .before .before .before .before .before .before .before .before .before .before .loop .inv .0) (c .before .before .before .before .before .before .before .before .before .loop-test .taken) (c .before .before .before .before .before .before .earlier .ensures) (rw x at (c .before .before .before .before .before .to-first .ensures)) (rw x at (c .before .before .before .before .to-second .ensures)) (rw x at (c .before .before .before .place-on .ensures)) (c .tally-row .ensures))
 
 returns : tie.Need-returns Inv-loop μ-loop
 returns c = block-done _ _ _ _ _ _ (omega arith) (c .before .loop .inv .2)
@@ -80,11 +80,11 @@ block-spec =
     to-first-requires
     to-second-requires
     place-on-requires
-    mul-row
-    sub-row
-    part-row-start
-    part-row-end
-    row-requires
+    mul-tally-row
+    sub-tally-row
+    part-tally-row-start
+    part-tally-row-end
+    tally-row-requires
     add-i
     loop-less
     loop-again

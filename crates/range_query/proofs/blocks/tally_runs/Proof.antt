@@ -1,9 +1,9 @@
 -- All at once in one bucket, or event by event.
-use Rattle.range_query.proofs.Laws.Whole.{tallied-at-once, takes-all}
+use Rattle.range_query.proofs.Laws.Whole.{runs-at-once, takes-all}
 use borrow.Author.Needs.{needs}
 use native.Mathlib.Omega.{arith}
-use Rattle.range_query.proofs.whole.tally_runs.Statement.{statement}
-use Rattle.range_query.proofs.whole.tally_runs.Tie as tie
+use Rattle.range_query.proofs.blocks.tally_runs.Statement.{statement}
+use Rattle.range_query.proofs.blocks.tally_runs.Tie as tie
 
 one-bucket-requires : tie.Need-one-bucket-requires
 one-bucket-requires c κs = search needs
@@ -33,7 +33,7 @@ element-write-buckets : tie.Need-element-write-buckets
 element-write-buckets c = search needs
 
 returns : tie.Need-returns
-returns c = tallied-at-once _ _ (c .before .before .before .before .before .pre .0) (c .before .before .before .if1 .taken) (c .before .before .one-bucket .ensures) (omega (arith, c .before .if2 .taken)) (c .before .before .before .before .before .pre .2)
+returns c = runs-at-once _ _ (c .before .before .before .before .before .pre .0) (c .before .before .before .if1 .taken) (c .before .before .one-bucket .ensures) (omega (arith, c .before .if2 .taken)) (c .before .before .before .before .before .pre .2)
 
 block-requires : tie.Need-block-requires
 block-requires c κs = search needs
