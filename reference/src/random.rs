@@ -196,6 +196,37 @@ pub fn even_thresholds(count: usize, max_value: u32) -> Vec<u32> {
     (1..=count).map(|k| (k * step).min(u64::from(u32::MAX)) as u32).collect()
 }
 
+/// How thresholds lie to the legs.
+#[derive(Clone, Copy, Debug)]
+pub enum Spread {
+    /// Evenly up to about the widest distance of a ring network.
+    Even,
+    /// Evenly up to half of the longest leg.
+    Short,
+    /// 1, 2, 3 and so on, and one as long as all legs together.
+    Far,
+}
+
+impl Spread {
+    pub fn name(self) -> &'static str {
+        match self {
+            Spread::Even => "even",
+            Spread::Short => "short",
+            Spread::Far => "far",
+        }
+    }
+
+    /// Just so many rising thresholds over a ring network with legs of up to
+    /// `longest` metres.
+    pub fn thresholds(self, count: usize, longest: u32) -> Vec<u32> {
+        match self {
+            Spread::Even => even_thresholds(count, longest.saturating_mul(6).max(64)),
+            Spread::Short => even_thresholds(count, longest / 2),
+            Spread::Far => (1..count as u32).chain([longest.saturating_mul(MAX_LEGS as u32)]).collect(),
+        }
+    }
+}
+
 /// Up to 64 rising thresholds that are not evenly spread: growing from small
 /// ones, crowded in one place, or small ones and a few near the greatest.
 pub fn uneven_thresholds(rng: &mut Rng, max_value: u32) -> Vec<u32> {

@@ -14,7 +14,7 @@ use std::process::Command;
 
 use common::*;
 use reference::lists::{MAX_LENGTH, MAX_REPORTS};
-use reference::random::{self, Rng};
+use reference::random::{self, Rng, Spread::Even, Spread::Far, Spread::Short};
 use reference::table::FILES;
 use reference::text::MAX_TEXT;
 
@@ -227,22 +227,26 @@ fn large_folders() {
     let folder = folder("large_folders");
     let mut rng = Rng::new(301);
     // Spread over all legs and crowded on few, so that each method has its turn.
-    for (nodes, legs, sets, per_set, on_legs, thresholds) in [
-        (512, 1_024, 32, 150, 0, 64),
-        (512, 1_024, 1, 4_700, 0, 64),
-        (512, 1_024, 1, 4_700, 0, 2),
-        (512, 1_024, 1, 4_700, 9, 64),
-        (512, 1_024, 1, 4_700, 3, 64),
-        (40, 60, 32, 160, 4, 64),
-        (40, 60, 32, 160, 4, 3),
-        (40, 60, 4, 1_000, 12, 6),
+    for (nodes, legs, sets, per_set, on_legs, thresholds, spread) in [
+        (512, 1_024, 32, 150, 0, 64, Even),
+        (512, 1_024, 1, 4_700, 0, 64, Even),
+        (512, 1_024, 1, 4_700, 0, 64, Short),
+        (512, 1_024, 1, 4_700, 0, 64, Far),
+        (512, 1_024, 1, 4_700, 0, 2, Even),
+        (512, 1_024, 1, 4_700, 9, 64, Even),
+        (512, 1_024, 1, 4_700, 9, 64, Short),
+        (512, 1_024, 1, 4_700, 9, 64, Far),
+        (512, 1_024, 1, 4_700, 3, 64, Even),
+        (40, 60, 32, 160, 4, 64, Even),
+        (40, 60, 32, 160, 4, 3, Short),
+        (40, 60, 4, 1_000, 12, 6, Far),
     ] {
         let input = random::ring_network(&mut rng, nodes, legs, 1_000);
         let reports = random::reports(&mut rng, &input, sets, per_set, on_legs);
         let files = [
             Text(random::network_text(&mut rng, &input)),
             Text(random::reports_text(&mut rng, &reports)),
-            Text(random::thresholds_text(&mut rng, &random::even_thresholds(thresholds, 5_000))),
+            Text(random::thresholds_text(&mut rng, &spread.thresholds(thresholds, 1_000))),
         ];
         let told = compare(&proved, &folder, &files);
         assert!(told.starts_with("threshold,"), "{told}");

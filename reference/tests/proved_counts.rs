@@ -16,7 +16,7 @@ use reference::counts::{self, Method};
 use reference::distance::NodeTable;
 use reference::lists::{Refusal, MAX_LEGS, MAX_LENGTH, MAX_NODES, MAX_REPORTS, MAX_SET, MAX_THRESHOLDS};
 use reference::model::{Sets, Thresholds};
-use reference::random::{self, NetworkInput, ReportInput, Rng};
+use reference::random::{self, NetworkInput, ReportInput, Rng, Spread};
 
 type Proved = fn(&NetworkInput, &ReportInput, &[u32], &mut [u32]) -> Result<(), Refusal>;
 
@@ -177,17 +177,20 @@ fn one_fault_at_a_time() {
 fn at_the_limits() {
     for (proved, plain) in METHODS {
         let mut rng = Rng::new(203);
-        for (sets, per_set, on_legs, count, reach) in [
-            (1, MAX_REPORTS, 0, MAX_THRESHOLDS, 6_000),
-            (1, MAX_REPORTS, 9, MAX_THRESHOLDS, 6_000),
-            (1, MAX_REPORTS, 1, 1, 400),
-            (MAX_SET + 1, MAX_REPORTS / 32, 0, MAX_THRESHOLDS, 3_000),
-            (MAX_SET + 1, MAX_REPORTS / 32, 9, 5, u32::MAX),
+        for (sets, per_set, on_legs, count, spread) in [
+            (1, MAX_REPORTS, 0, MAX_THRESHOLDS, Spread::Even),
+            (1, MAX_REPORTS, 0, MAX_THRESHOLDS, Spread::Far),
+            (1, MAX_REPORTS, 9, MAX_THRESHOLDS, Spread::Even),
+            (1, MAX_REPORTS, 9, MAX_THRESHOLDS, Spread::Short),
+            (1, MAX_REPORTS, 100, 2, Spread::Even),
+            (1, MAX_REPORTS, 1, 1, Spread::Short),
+            (MAX_SET + 1, MAX_REPORTS / 32, 0, MAX_THRESHOLDS, Spread::Even),
+            (MAX_SET + 1, MAX_REPORTS / 32, 9, 5, Spread::Far),
         ] {
             let network = random::ring_network(&mut rng, MAX_NODES, MAX_LEGS, 1_000);
             let reports = random::reports(&mut rng, &network, sets, per_set, on_legs);
             assert_eq!(reports.sets.len(), MAX_REPORTS);
-            let thresholds = random::even_thresholds(count, reach);
+            let thresholds = spread.thresholds(count, 1_000);
             let answers = vec![7; calls::counts_wanted(&reports.sets, &thresholds) + 3];
             let good = Case { network, reports, thresholds, answers };
             assert!(good.compare(proved, plain).is_ok());

@@ -1,5 +1,9 @@
 // Which method counts. All are proved to give the same counts, so that the choice is free and nothing is promised of it.
+ghost use Prim.Native.Nat.{_≤_, _<_};
+use model::EventSet;
 use model::Network;
+use model::less;
+use model::lesser;
 
 pub enum Method {
     RangeQuery,
@@ -7,14 +11,36 @@ pub enum Method {
     NeighborSharing,
 }
 
+// What the choice goes by: the events of a set, the edges that have any, the thresholds, how many of these are shorter than an edge
+// and how many as long as all edges together, and the events in reach of one by the short ones.
+pub struct Case {
+    pub size: u64,
+    pub edges: u64,
+    pub thresholds: u64,
+    pub short: u64,
+    pub far: u64,
+    pub near: u64,
+}
+
 // A flag for each edge number, which begin with 1.
 const FLAGS: usize = Network::MAX_EDGES + 1;
 
-// Pairs on one edge take as long as pairs with so many other edges (measured: docs/BENCHMARKS.md).
-const OWN_EDGE: usize = 14;
+// Where runs have fewer events the range query takes these one by one.
+const LONG: u64 = 32;
 
-// On so few edges neighbour sharing is fastest (measured there too).
-const VERY_FEW: usize = 3;
+// A number, cut off: so small that a few products can be added up.
+fn small(number: u64) -> u64
+    ensures { λ r. ⌜ r ≤ 65536 ⌝ }
+{
+    lesser(number, 65536)
+}
+
+// The product of two numbers, each cut off.
+fn product(a: u64, b: u64) -> u64
+    ensures { λ r. ⌜ r ≤ 4294967296 ⌝ }
+{
+    small(a) * small(b)
+}
 
 // How many different edges have an event, so many at most. Numbers without a flag are passed over.
 fn count_edges(edges: &[u32], most: usize, flags: &mut [u8]) -> usize {
@@ -31,27 +57,169 @@ fn count_edges(edges: &[u32], most: usize, flags: &mut [u8]) -> usize {
     count
 }
 
-// The method that should be fastest. The range query takes a step for each two events of a set; count augmentation five sixths of
-// one for each event, edge and threshold, pairs on one edge counted as on OWN_EDGE others; on up to VERY_FEW edges neighbour sharing
-// is faster than that. Sets are of one size.
-pub(crate) fn method_for(sets: &[u32], edges: &[u32], thresholds: &[u32]) -> Method {
-    let times = thresholds.len();
-    if times == 0 {
-        return Method::RangeQuery;
+// An entry of a list, 0 behind its end.
+fn entry(list: &[u32], k: usize) -> u64
+    ensures { λ r. ⌜ r < 4294967296 ⌝ }
+{
+    if list.len() <= k {
+        return 0;
     }
-    let set_size = edges.len() / (validate::greatest_set(sets) as usize + 1);
-    let steps = set_size / (times - times / 6);
-    if steps <= OWN_EDGE {
-        return Method::RangeQuery;
+    list[k] as u64
+}
+
+// How long all edges are together, so many as there may be.
+fn sum_of_lengths(lengths: &[u32]) -> u64 {
+    let mut sum: u64 = 0;
+    let mut k = 0;
+    while k < Network::MAX_EDGES {
+        sum += entry(lengths, k);
+        k += 1;
     }
-    let most = steps - OWN_EDGE;
+    sum
+}
+
+// The length of the edge of an event, 0 where there is none.
+fn length_at(lengths: &[u32], edges: &[u32], k: usize) -> u64
+    ensures { λ r. ⌜ r < 4294967296 ⌝ }
+{
+    let edge = entry(edges, k);
+    if edge == 0 {
+        return 0;
+    }
+    entry(lengths, edge as usize - 1)
+}
+
+// The mean length of the events' edges, taken over so many events as there may be.
+fn mean_length(lengths: &[u32], edges: &[u32]) -> u64 {
+    let mut sum: u64 = 0;
+    let mut k = 0;
+    while k < EventSet::MAX_EVENTS {
+        sum += length_at(lengths, edges, k);
+        k += 1;
+    }
+    if edges.len() == 0 {
+        return 0;
+    }
+    sum / edges.len() as u64
+}
+
+// How many thresholds come before the first that is not below a limit.
+fn count_below(thresholds: &[u32], limit: u64) -> usize {
+    let mut k = 0;
+    while k < thresholds.len() {
+        if limit <= entry(thresholds, k) {
+            return k;
+        }
+        k += 1;
+    }
+    k
+}
+
+// How far the last of the short thresholds reaches along an edge, in tenths of its length.
+fn reach_of(thresholds: &[u32], short: usize, length: u64) -> u64 {
+    if length == 0 {
+        return 0;
+    }
+    if short == 0 {
+        return 0;
+    }
+    10 * entry(thresholds, short - 1) / length
+}
+
+// The events that one is paired with on its edge and, as far as the short thresholds reach, on the next ones.
+fn near_events(size: u64, edges: u64, reach: u64) -> u64 {
+    if edges == 0 {
+        return 0;
+    }
+    lesser(size, 3 * product(size / edges, 10 + small(reach)) / 20)
+}
+
+fn case_of(lengths: &[u32], sets: &[u32], edges: &[u32], thresholds: &[u32]) -> Case {
+    let size = edges.len() / (validate::greatest_set(sets) as usize + 1);
     let mut flags = [0u8; FLAGS];
-    let occupied = count_edges(edges, most, &mut flags);
-    if occupied == most {
+    let occupied = count_edges(edges, size, &mut flags) as u64;
+    let length = mean_length(lengths, edges);
+    let short = count_below(thresholds, length);
+    let within = count_below(thresholds, sum_of_lengths(lengths));
+    let reach = reach_of(thresholds, short, length);
+    Case {
+        size: size as u64,
+        edges: occupied,
+        thresholds: thresholds.len() as u64,
+        short: short as u64,
+        far: less(thresholds.len() as u64, within as u64),
+        near: near_events(size as u64, occupied, reach),
+    }
+}
+
+// Thresholds that are not short.
+fn long(c: Case) -> u64 {
+    less(c.thresholds, c.short)
+}
+
+// Thresholds between a short one and a far one: with these an event may reach a part of any edge.
+fn middle(c: Case) -> u64 {
+    less(long(c), c.far)
+}
+
+// How many edges are taken beside one for each event on it.
+fn edges_for_each(c: Case) -> u64
+    ensures { λ r. ⌜ r ≤ 65536 ⌝ }
+{
+    if c.size == 0 {
+        return 0;
+    }
+    small(product(c.edges, c.edges) / c.size)
+}
+
+// How many fifths of the pairs that are not near the range query takes one by one: with each middle threshold one, and two where
+// rows are too short to be taken as a whole.
+fn fifths(c: Case) -> u64
+    ensures { λ r. ⌜ r ≤ 5 ⌝ }
+{
+    if c.size < product(LONG, c.edges) {
+        return lesser(product(2, middle(c)), 5);
+    }
+    lesser(middle(c), 5)
+}
+
+// What a method takes for each event, in tenths of a nanosecond, measured (docs/BENCHMARKS.md). The range query takes the near pairs
+// one by one, and of the others some fifths.
+fn query_time(c: Case) -> u64 {
+    let others = product(less(c.size, c.near), fifths(c)) / 5;
+    11 * (small(c.near) + others) + 70 * edges_for_each(c)
+}
+
+// Count augmentation looks up each short threshold on the event's edge and each middle one on every edge.
+fn augmentation_time(c: Case) -> u64 {
+    let looked_up = 400 * small(c.short) + 70 * small(long(c)) + 10 * product(middle(c), c.edges);
+    looked_up + 10 * product(edges_for_each(c), 11 + small(c.thresholds))
+}
+
+// Neighbour sharing sweeps the event's edge with each threshold, up to four more with each short one and all with each other one.
+fn sharing_time(c: Case) -> u64 {
+    let next = less(c.edges, 1);
+    let swept = product(c.short, lesser(next, 4)) + product(long(c), next);
+    let on_edges = 90 * small(c.thresholds) + 40 * swept;
+    on_edges + 10 * product(edges_for_each(c), 11 + small(c.thresholds))
+}
+
+// The method that should be fastest. Sets are of one size.
+pub(crate) fn method_for(
+    lengths: &[u32],
+    sets: &[u32],
+    edges: &[u32],
+    thresholds: &[u32],
+) -> Method {
+    let c = case_of(lengths, sets, edges, thresholds);
+    let query = query_time(c);
+    let augmentation = augmentation_time(c);
+    let sharing = sharing_time(c);
+    if query <= augmentation && query <= sharing {
         return Method::RangeQuery;
     }
-    if occupied <= VERY_FEW {
-        return Method::NeighborSharing;
+    if augmentation <= sharing {
+        return Method::CountAugmentation;
     }
-    Method::CountAugmentation
+    Method::NeighborSharing
 }

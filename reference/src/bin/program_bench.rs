@@ -12,7 +12,7 @@ use std::path::{Path, PathBuf};
 use std::process::Command;
 
 use reference::counts::Method;
-use reference::random::{self, Rng};
+use reference::random::{self, Rng, Spread, Spread::Even, Spread::Far, Spread::Short};
 use reference::table::FILES;
 use reference::text::MAX_TEXT;
 
@@ -27,34 +27,35 @@ struct Case {
     /// 0 for all legs.
     on_legs: usize,
     thresholds: usize,
-    /// The greatest threshold, the others being 1, 2, 3 and so on; 0 where all
-    /// are evenly spread.
-    far: u32,
+    spread: Spread,
 }
 
 #[rustfmt::skip]
-const CASES: [Case; 21] = [
-    Case { what: "tiny", nodes: 4, legs: 4, longest: 9, sets: 3, per_set: 4, on_legs: 0, thresholds: 4, far: 0 },
-    Case { what: "reports 0", nodes: 512, legs: 1_024, longest: 999, sets: 1, per_set: 900, on_legs: 0, thresholds: 64, far: 0 },
-    Case { what: "reports 1", nodes: 512, legs: 1_024, longest: 999, sets: 1, per_set: 1_000, on_legs: 0, thresholds: 64, far: 0 },
-    Case { what: "reports 2", nodes: 512, legs: 1_024, longest: 999, sets: 1, per_set: 2_000, on_legs: 0, thresholds: 64, far: 0 },
-    Case { what: "reports 3", nodes: 512, legs: 1_024, longest: 999, sets: 1, per_set: 4_000, on_legs: 0, thresholds: 64, far: 0 },
-    Case { what: "reports 4", nodes: 512, legs: 1_024, longest: 9, sets: 1, per_set: 6_600, on_legs: 0, thresholds: 64, far: 0 },
-    Case { what: "legs 1", nodes: 32, legs: 64, longest: 999, sets: 1, per_set: 5_000, on_legs: 0, thresholds: 64, far: 0 },
-    Case { what: "legs 2", nodes: 128, legs: 256, longest: 999, sets: 1, per_set: 5_000, on_legs: 0, thresholds: 64, far: 0 },
-    Case { what: "legs 3", nodes: 512, legs: 1_024, longest: 999, sets: 1, per_set: 5_000, on_legs: 0, thresholds: 64, far: 0 },
-    Case { what: "thresholds 1", nodes: 512, legs: 1_024, longest: 999, sets: 1, per_set: 5_000, on_legs: 0, thresholds: 1, far: 0 },
-    Case { what: "thresholds 2", nodes: 512, legs: 1_024, longest: 999, sets: 1, per_set: 5_000, on_legs: 0, thresholds: 8, far: 0 },
-    Case { what: "far threshold 1", nodes: 512, legs: 1_024, longest: 9, sets: 1, per_set: 6_600, on_legs: 0, thresholds: 64, far: 20_000 },
-    Case { what: "far threshold 2", nodes: 512, legs: 1_024, longest: 999, sets: 1, per_set: 5_000, on_legs: 0, thresholds: 64, far: 1_000_000 },
-    Case { what: "32 sets", nodes: 512, legs: 1_024, longest: 999, sets: 32, per_set: 155, on_legs: 0, thresholds: 64, far: 0 },
-    Case { what: "few legs 1", nodes: 512, legs: 1_024, longest: 9, sets: 1, per_set: 8_192, on_legs: 9, thresholds: 64, far: 0 },
-    Case { what: "few legs 2", nodes: 512, legs: 1_024, longest: 9, sets: 1, per_set: 8_192, on_legs: 9, thresholds: 8, far: 0 },
-    Case { what: "few legs 3", nodes: 512, legs: 1_024, longest: 999, sets: 1, per_set: 6_500, on_legs: 9, thresholds: 64, far: 0 },
-    Case { what: "few legs 4", nodes: 512, legs: 1_024, longest: 9, sets: 32, per_set: 240, on_legs: 9, thresholds: 64, far: 0 },
-    Case { what: "few legs 5", nodes: 512, legs: 1_024, longest: 9, sets: 32, per_set: 240, on_legs: 9, thresholds: 1, far: 0 },
-    Case { what: "one leg 1", nodes: 512, legs: 1_024, longest: 9, sets: 1, per_set: 8_192, on_legs: 1, thresholds: 64, far: 0 },
-    Case { what: "one leg 2", nodes: 512, legs: 1_024, longest: 9, sets: 32, per_set: 240, on_legs: 1, thresholds: 64, far: 0 },
+const CASES: [Case; 24] = [
+    Case { what: "tiny", nodes: 4, legs: 4, longest: 9, sets: 3, per_set: 4, on_legs: 0, thresholds: 4, spread: Even },
+    Case { what: "reports 0", nodes: 512, legs: 1_024, longest: 999, sets: 1, per_set: 900, on_legs: 0, thresholds: 64, spread: Even },
+    Case { what: "reports 1", nodes: 512, legs: 1_024, longest: 999, sets: 1, per_set: 1_000, on_legs: 0, thresholds: 64, spread: Even },
+    Case { what: "reports 2", nodes: 512, legs: 1_024, longest: 999, sets: 1, per_set: 2_000, on_legs: 0, thresholds: 64, spread: Even },
+    Case { what: "reports 3", nodes: 512, legs: 1_024, longest: 999, sets: 1, per_set: 4_000, on_legs: 0, thresholds: 64, spread: Even },
+    Case { what: "reports 4", nodes: 512, legs: 1_024, longest: 9, sets: 1, per_set: 6_600, on_legs: 0, thresholds: 64, spread: Even },
+    Case { what: "legs 1", nodes: 32, legs: 64, longest: 999, sets: 1, per_set: 5_000, on_legs: 0, thresholds: 64, spread: Even },
+    Case { what: "legs 2", nodes: 128, legs: 256, longest: 999, sets: 1, per_set: 5_000, on_legs: 0, thresholds: 64, spread: Even },
+    Case { what: "legs 3", nodes: 512, legs: 1_024, longest: 999, sets: 1, per_set: 5_000, on_legs: 0, thresholds: 64, spread: Even },
+    Case { what: "thresholds 1", nodes: 512, legs: 1_024, longest: 999, sets: 1, per_set: 5_000, on_legs: 0, thresholds: 1, spread: Even },
+    Case { what: "thresholds 2", nodes: 512, legs: 1_024, longest: 999, sets: 1, per_set: 5_000, on_legs: 0, thresholds: 8, spread: Even },
+    Case { what: "far threshold 1", nodes: 512, legs: 1_024, longest: 9, sets: 1, per_set: 6_600, on_legs: 0, thresholds: 64, spread: Far },
+    Case { what: "far threshold 2", nodes: 512, legs: 1_024, longest: 999, sets: 1, per_set: 5_000, on_legs: 0, thresholds: 64, spread: Far },
+    Case { what: "far threshold 3", nodes: 512, legs: 1_024, longest: 999, sets: 1, per_set: 6_500, on_legs: 9, thresholds: 64, spread: Far },
+    Case { what: "short thresholds 1", nodes: 512, legs: 1_024, longest: 999, sets: 1, per_set: 5_000, on_legs: 0, thresholds: 64, spread: Short },
+    Case { what: "short thresholds 2", nodes: 512, legs: 1_024, longest: 999, sets: 1, per_set: 6_500, on_legs: 9, thresholds: 64, spread: Short },
+    Case { what: "32 sets", nodes: 512, legs: 1_024, longest: 999, sets: 32, per_set: 155, on_legs: 0, thresholds: 64, spread: Even },
+    Case { what: "few legs 1", nodes: 512, legs: 1_024, longest: 9, sets: 1, per_set: 8_192, on_legs: 9, thresholds: 64, spread: Even },
+    Case { what: "few legs 2", nodes: 512, legs: 1_024, longest: 9, sets: 1, per_set: 8_192, on_legs: 9, thresholds: 8, spread: Even },
+    Case { what: "few legs 3", nodes: 512, legs: 1_024, longest: 999, sets: 1, per_set: 6_500, on_legs: 9, thresholds: 64, spread: Even },
+    Case { what: "few legs 4", nodes: 512, legs: 1_024, longest: 9, sets: 32, per_set: 240, on_legs: 9, thresholds: 64, spread: Even },
+    Case { what: "few legs 5", nodes: 512, legs: 1_024, longest: 9, sets: 32, per_set: 240, on_legs: 9, thresholds: 1, spread: Even },
+    Case { what: "one leg 1", nodes: 512, legs: 1_024, longest: 9, sets: 1, per_set: 8_192, on_legs: 1, thresholds: 64, spread: Even },
+    Case { what: "one leg 2", nodes: 512, legs: 1_024, longest: 9, sets: 32, per_set: 240, on_legs: 1, thresholds: 64, spread: Even },
 ];
 
 /// The folder of a case, filled. The same bytes every time.
@@ -64,11 +65,7 @@ fn lay(folder: &Path, case: &Case) -> io::Result<PathBuf> {
     let mut rng = Rng::new(2026);
     let network = random::ring_network(&mut rng, case.nodes, case.legs, case.longest);
     let reports = random::reports(&mut rng, &network, case.sets, case.per_set, case.on_legs);
-    // Up to somewhat less than the widest distance, if not far beyond it.
-    let mut thresholds = random::even_thresholds(case.thresholds, (6 * case.longest).max(64));
-    if case.far > 0 {
-        thresholds = (1..case.thresholds as u32).chain([case.far]).collect();
-    }
+    let thresholds = case.spread.thresholds(case.thresholds, case.longest);
     let texts = [
         random::network_text(&mut rng, &network),
         random::reports_text(&mut rng, &reports),

@@ -31,7 +31,7 @@ mod bench {
     use reference::distance::{from_source, Adjacency};
     use reference::lists::Refusal;
     use reference::model::Network;
-    use reference::random::{self, NetworkInput, ReportInput, Rng};
+    use reference::random::{self, NetworkInput, ReportInput, Rng, Spread, Spread::Even, Spread::Far, Spread::Short};
     use reference::text;
 
     use crate::library;
@@ -132,24 +132,32 @@ mod bench {
         Ok(())
     }
 
-    /// Sets, reports in each, legs that have them (0 for all), thresholds.
-    const SHAPES: [(u32, usize, usize, usize); 16] = [
-        (1, 8_192, 1, 64),
-        (1, 8_192, 9, 64),
-        (1, 8_192, 9, 8),
-        (1, 8_192, 64, 64),
-        (1, 8_192, 128, 64),
-        (1, 8_192, 256, 64),
-        (1, 8_192, 0, 64),
-        (1, 8_192, 0, 8),
-        (1, 8_192, 0, 1),
-        (4, 2_048, 9, 64),
-        (4, 2_048, 32, 64),
-        (4, 2_048, 256, 8),
-        (4, 2_048, 0, 1),
-        (32, 256, 1, 64),
-        (32, 256, 9, 64),
-        (32, 256, 9, 1),
+    /// Sets, reports in each, legs that have them (0 for all), thresholds and
+    /// how they are spread.
+    const SHAPES: [(u32, usize, usize, usize, Spread); 23] = [
+        (1, 8_192, 1, 64, Even),
+        (1, 8_192, 1, 64, Short),
+        (1, 8_192, 9, 64, Even),
+        (1, 8_192, 9, 64, Short),
+        (1, 8_192, 9, 64, Far),
+        (1, 8_192, 9, 8, Even),
+        (1, 8_192, 9, 8, Short),
+        (1, 8_192, 64, 64, Even),
+        (1, 8_192, 64, 64, Short),
+        (1, 8_192, 128, 64, Even),
+        (1, 8_192, 256, 64, Even),
+        (1, 8_192, 0, 64, Even),
+        (1, 8_192, 0, 64, Far),
+        (1, 8_192, 0, 8, Even),
+        (1, 8_192, 0, 2, Even),
+        (1, 8_192, 0, 1, Even),
+        (4, 2_048, 9, 64, Even),
+        (4, 2_048, 32, 64, Even),
+        (4, 2_048, 256, 8, Even),
+        (4, 2_048, 0, 1, Even),
+        (32, 256, 1, 64, Even),
+        (32, 256, 9, 64, Even),
+        (32, 256, 9, 1, Even),
     ];
 
     /// The proved methods beside each other: the least of five turns of each,
@@ -157,11 +165,11 @@ mod bench {
     pub fn methods() -> Result<(), Refusal> {
         let mut rng = Rng::new(2026);
         let ring = random::ring_network(&mut rng, 512, 1_024, 1_000);
-        println!("| Sets of reports | on legs | thresholds | range query | count augmentation | neighbour sharing |");
-        println!("|---|---|---|---|---|---|");
-        for (sets, per_set, on_legs, marks) in SHAPES {
+        println!("| Sets of reports | on legs | thresholds | spread | range query | count augmentation | neighbour sharing |");
+        println!("|---|---|---|---|---|---|---|");
+        for (sets, per_set, on_legs, marks, spread) in SHAPES {
             let reports = random::reports(&mut rng, &ring, sets, per_set, on_legs);
-            let thresholds = random::even_thresholds(marks, 6_000);
+            let thresholds = spread.thresholds(marks, 1_000);
             let mut told = vec![0; calls::counts_wanted(&reports.sets, &thresholds)];
             let times = METHODS.map(|(_, proved, _, _)| {
                 let mut work = || {
@@ -171,8 +179,8 @@ mod bench {
             });
             let on_legs = if on_legs == 0 { 1_024 } else { on_legs };
             println!(
-                "| {sets} of {per_set} | {on_legs} | {marks} | {:.1} | {:.1} | {:.1} |",
-                times[0], times[1], times[2]
+                "| {sets} of {per_set} | {on_legs} | {marks} | {} | {:.1} | {:.1} | {:.1} |",
+                spread.name(), times[0], times[1], times[2]
             );
         }
         Ok(())
