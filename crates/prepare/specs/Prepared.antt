@@ -10,7 +10,7 @@ use Rattle.model.specs.Events.{Event, event, events, having, sorted, setSize, s
 use Rattle.model.specs.Network.{Network, IsNode, first, second}
 use Rattle.model.specs.NodeDistance.{boundedDistance}
 use Rattle.model.specs.declared.check.Check.{Check}
-use Rattle.model.specs.declared.check.Check.the-variants.{Accepted}
+use Rattle.model.specs.declared.check.Check.the-variants.{Accepted, Refused}
 use Rattle.prepare.specs.Counts.{countsCheck}
 
 -- the events of set s, laid out
@@ -58,7 +58,11 @@ pub record Prepared (net : Network) (sets es xs ts edges offsets bounds setRuns 
   pub from-second : (k v : ℕ) → k < length es → IsNode net v → entry net table (second net (pred (getD es k 0))) v ≡ code (boundedDistance net (greatest ts) (second net (pred (getD es k 0))) v)
 
 -- the promise of preparing: its verdict, and on acceptance what the five lists hold then. They are working storage of the caller, so
--- what they hold on refusal is free, and so is on acceptance what none of this speaks of
+-- what none of this speaks of is free
 pub record Ready (net : Network) (sets es xs ts : List ℕ) (room : ℕ) (r : Check) (edges offsets bounds setRuns table : List ℕ) : Type 0 where
   pub verdict : r ≡ countsCheck net sets es xs ts room
   pub prepared : countsCheck net sets es xs ts room ≡ Accepted → Prepared net sets es xs ts edges offsets bounds setRuns table
+
+-- on refusal the five lists are left as they were
+pub record LeftOnRefusal (r : Check) (edges offsets bounds setRuns table edges′ offsets′ bounds′ setRuns′ table′ : List ℕ) : Type 0 where
+  pub left : (number place : ℕ) → r ≡ Refused number place → (edges′ ≡ edges) × (offsets′ ≡ offsets) × (bounds′ ≡ bounds) × (setRuns′ ≡ setRuns) × (table′ ≡ table)

@@ -1,4 +1,4 @@
-use mathlib.Core.Path.{sym, _∙_}
+use mathlib.Core.Path.{refl, sym, _∙_}
 use native.Mathlib.Omega.{arith}
 use native.Mathlib.Numerals.{sub-one}
 use Rattle.model.specs.Network.{network}
@@ -23,7 +23,7 @@ enum-told c = search needs
 returns : tie.Need-returns
 returns c =
     let checked = c .before .before .check-counts .ensures in
-    record { verdict = checked; prepared = λ e. not-accepted (sym (c .enum-told .given .1) ∙ checked ∙ e) }
+    (record { verdict = checked; prepared = λ e. not-accepted (sym (c .enum-told .given .1) ∙ checked ∙ e) }, record { left = λ _ _ _. (refl, refl, refl, refl, refl) })
 
 enum-told-2 : tie.Need-enum-told-2
 enum-told-2 c = search needs
@@ -50,11 +50,13 @@ end-table-requires c κs =
 
 returns-2 : tie.Need-returns-2
 unfolding greatest
-returns-2 c =
-    record {
-      verdict = c .before .before .before .before .before .before .before .before .before .before .check-counts .ensures;
-      prepared = λ _. prepared _ _ _ _ _ _ _ _ _ _ (c .before .before .lay-runs .ensures) (rw sub-one at (c .end-table .ensures));
-    }
+returns-2 c = (
+  record {
+    verdict = c .before .before .before .before .before .before .before .before .before .before .check-counts .ensures;
+    prepared = λ _. prepared _ _ _ _ _ _ _ _ _ _ (c .before .before .lay-runs .ensures) (rw sub-one at (c .end-table .ensures));
+  },
+  record { left = λ _ _ e. not-accepted (sym e ∙ c .before .before .before .before .before .before .before .before .enum-told2 .given .1) },
+)
 
 pub prepare-spec : {M : Type 1} → statement M
 prepare-spec =

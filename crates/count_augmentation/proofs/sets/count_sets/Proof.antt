@@ -26,11 +26,11 @@ enum-told : tie.Need-enum-told Inv-loop μ-loop
 enum-told c = search needs
 
 returns : tie.Need-returns Inv-loop μ-loop
-returns c = refused-answered (c .before .before .prepare .ensures) (c .enum-told .given .1)
+returns c = refused-answered (c .before .before .prepare .ensures .0) (c .enum-told .given .1)
 
 -- what stands fixed while the loop runs
 fixed : (c : tie.After-greatest-set Inv-loop μ-loop) → Begun (network (c .before .before .before .before .before .before .before .before .before .before .before .before .before .before .before .before .before .args .nodes) (c .before .before .before .before .before .before .before .before .before .before .before .before .before .before .before .before .before .args .firsts .now) (c .before .before .before .before .before .before .before .before .before .before .before .before .before .before .before .before .before .args .seconds .now) (c .before .before .before .before .before .before .before .before .before .before .before .before .before .before .before .before .before .args .lengths .now)) (c .before .before .before .before .before .before .before .before .before .before .before .before .before .before .before .before .before .args .sets .now) (c .before .before .before .before .before .before .before .before .before .before .before .before .before .before .before .before .before .args .edges .now) (c .before .before .before .before .before .before .before .before .before .before .before .before .before .before .before .before .before .args .offsets .now) (c .before .before .before .before .before .before .before .before .before .before .before .before .before .before .before .before .before .args .thresholds .now) (length (c .before .before .before .before .before .before .before .before .before .before .before .before .before .before .before .before .before .args .answers .now)) (c .before .before .before .prepare .last .1 .1 .1 .1 .1 .1 .1 .1 .1 .0) (c .before .before .before .prepare .last .1 .1 .1 .1 .1 .1 .1 .1 .1 .1 .0) (c .before .before .before .prepare .last .1 .1 .1 .1 .1 .1 .1 .1 .1 .1 .1 .0) (c .before .before .before .prepare .last .1 .1 .1 .1 .1 .1 .1 .1 .1 .1 .1 .1 .0) (c .before .before .before .prepare .last .1 .1 .1 .1 .1 .1 .1 .1 .1 .1 .1 .1 .1 .0) (c .greatest-set .result + 1)
-fixed c = begun (c .before .before .before .prepare .ensures) (c .before .enum-told2 .given .1) (c .greatest-set .ensures)
+fixed c = begun (c .before .before .before .prepare .ensures .0) (c .before .enum-told2 .given .1) (c .greatest-set .ensures)
 
 enum-told-2 : tie.Need-enum-told-2 Inv-loop μ-loop
 enum-told-2 c = search needs
@@ -109,7 +109,7 @@ same-length : tie.Need-same-length Inv-loop μ-loop
 same-length c = c .before .loop .inv .1
 
 returns-2 : tie.Need-returns-2 Inv-loop μ-loop
-returns-2 c = all-answered (fixed (c .before .before)) (c .before .before .before .before .before .prepare .ensures) (c .before .before .before .enum-told2 .given .1) _ _ _ (omega (arith, c .loop-test .left, c .before .loop .inv .0)) (c .before .loop .inv .2)
+returns-2 c = all-answered (fixed (c .before .before)) (c .before .before .before .before .before .prepare .ensures .0) (c .before .before .before .enum-told2 .given .1) _ _ _ (omega (arith, c .loop-test .left, c .before .loop .inv .0)) (c .before .loop .inv .2)
 
 pub count-sets-spec : {M : Type 1} → statement M
 count-sets-spec =

@@ -25,7 +25,7 @@ call c = c .before .before .before .before .before .before .before .before .befo
 
 -- what stands fixed while the loop runs
 fixed : (c : tie.After-greatest-set Inv-loop μ-loop) → Begun (network (call c .args .nodes) (call c .args .firsts .now) (call c .args .seconds .now) (call c .args .lengths .now)) (call c .args .sets .now) (call c .args .edges .now) (call c .args .offsets .now) (call c .args .thresholds .now) (length (call c .args .answers .now)) (c .before .before .before .prepare .last .1 .1 .1 .1 .1 .1 .1 .1 .1 .0) (c .before .before .before .prepare .last .1 .1 .1 .1 .1 .1 .1 .1 .1 .1 .0) (c .before .before .before .prepare .last .1 .1 .1 .1 .1 .1 .1 .1 .1 .1 .1 .0) (c .before .before .before .prepare .last .1 .1 .1 .1 .1 .1 .1 .1 .1 .1 .1 .1 .0) (c .before .before .before .prepare .last .1 .1 .1 .1 .1 .1 .1 .1 .1 .1 .1 .1 .1 .0) (c .greatest-set .result + 1)
-fixed c = begun (c .before .before .before .prepare .ensures) (c .before .enum-told2 .given .1) (c .greatest-set .ensures)
+fixed c = begun (c .before .before .before .prepare .ensures .0) (c .before .enum-told2 .given .1) (c .greatest-set .ensures)
 
 -- the next row fits
 next-fits : (c : tie.In-loop Inv-loop μ-loop) → c .before .loop .start + length (call (c .before .before) .args .thresholds .now) ≤ length (c .before .loop .answers)
@@ -39,7 +39,7 @@ enum-told : tie.Need-enum-told Inv-loop μ-loop
 enum-told c = search needs
 
 returns : tie.Need-returns Inv-loop μ-loop
-returns c = refused-answered (c .before .before .prepare .ensures) (c .enum-told .given .1)
+returns c = refused-answered (c .before .before .prepare .ensures .0) (c .enum-told .given .1)
 
 enum-told-2 : tie.Need-enum-told-2 Inv-loop μ-loop
 enum-told-2 c = search needs
@@ -111,7 +111,7 @@ same-length : tie.Need-same-length Inv-loop μ-loop
 same-length c = c .before .loop .inv .1
 
 returns-2 : tie.Need-returns-2 Inv-loop μ-loop
-returns-2 c = all-answered (fixed (c .before .before)) (c .before .before .before .before .before .prepare .ensures) (c .before .before .before .enum-told2 .given .1) _ _ _ (omega arith) (c .before .loop .inv .2)
+returns-2 c = all-answered (fixed (c .before .before)) (c .before .before .before .before .before .prepare .ensures .0) (c .before .before .before .enum-told2 .given .1) _ _ _ (omega arith) (c .before .loop .inv .2)
 
 pub count-sets-spec : {M : Type 1} → statement M
 count-sets-spec =

@@ -27,13 +27,13 @@ enum-told : tie.Need-enum-told Inv-loop μ-loop
 enum-told c = search needs
 
 returns : tie.Need-returns Inv-loop μ-loop
-returns c = refused-answered (c .before .before .prepare .ensures) (c .enum-told .given .1)
+returns c = refused-answered (c .before .before .prepare .ensures .0) (c .enum-told .given .1)
 
 enum-told-2 : tie.Need-enum-told-2 Inv-loop μ-loop
 enum-told-2 c = search needs
 
 spread-requires : tie.Need-spread-requires Inv-loop μ-loop
-spread-requires c κs = (counts-accepted _ _ _ _ _ _ (sym (c .before .before .before .prepare .ensures .verdict) ∙ c .before .enum-told2 .given .1) .thresholds-are .some, refl)
+spread-requires c κs = (counts-accepted _ _ _ _ _ _ (sym (c .before .before .before .prepare .ensures .0 .verdict) ∙ c .before .enum-told2 .given .1) .thresholds-are .some, refl)
 
 greatest-set-requires : tie.Need-greatest-set-requires Inv-loop μ-loop
 greatest-set-requires c κs = search needs
@@ -44,7 +44,7 @@ cast-count c = search needs
 -- what stands fixed while the loop runs
 fixed : (c : tie.After-greatest-set Inv-loop μ-loop) → Begun (network (c .before .before .before .before .before .before .before .before .before .before .before .before .before .before .before .before .before .before .before .args .nodes) (c .before .before .before .before .before .before .before .before .before .before .before .before .before .before .before .before .before .before .before .args .firsts .now) (c .before .before .before .before .before .before .before .before .before .before .before .before .before .before .before .before .before .before .before .args .seconds .now) (c .before .before .before .before .before .before .before .before .before .before .before .before .before .before .before .before .before .before .before .args .lengths .now)) (c .before .before .before .before .before .before .before .before .before .before .before .before .before .before .before .before .before .before .before .args .sets .now) (c .before .before .before .before .before .before .before .before .before .before .before .before .before .before .before .before .before .before .before .args .edges .now) (c .before .before .before .before .before .before .before .before .before .before .before .before .before .before .before .before .before .before .before .args .offsets .now) (c .before .before .before .before .before .before .before .before .before .before .before .before .before .before .before .before .before .before .before .args .thresholds .now) (length (c .before .before .before .before .before .before .before .before .before .before .before .before .before .before .before .before .before .before .before .args .answers .now)) (c .before .before .before .before .before .prepare .last .1 .1 .1 .1 .1 .1 .1 .1 .1 .0) (c .before .before .before .before .before .prepare .last .1 .1 .1 .1 .1 .1 .1 .1 .1 .1 .0) (c .before .before .before .before .before .prepare .last .1 .1 .1 .1 .1 .1 .1 .1 .1 .1 .1 .0) (c .before .before .before .before .before .prepare .last .1 .1 .1 .1 .1 .1 .1 .1 .1 .1 .1 .1 .0) (c .before .before .before .before .before .prepare .last .1 .1 .1 .1 .1 .1 .1 .1 .1 .1 .1 .1 .1 .0) (c .before .spread .last .1 .0) (c .greatest-set .result + 1)
 fixed c = record {
-  prepared = begun (c .before .before .before .before .before .prepare .ensures) (c .before .before .before .enum-told2 .given .1) (c .greatest-set .ensures);
+  prepared = begun (c .before .before .before .before .before .prepare .ensures .0) (c .before .before .before .enum-told2 .given .1) (c .greatest-set .ensures);
   steps-are = c .before .spread .ensures;
 }
 
@@ -111,7 +111,7 @@ same-length : tie.Need-same-length Inv-loop μ-loop
 same-length c = c .before .loop .inv .1
 
 returns-2 : tie.Need-returns-2 Inv-loop μ-loop
-returns-2 c = all-answered (fixed (c .before .before) .prepared) (c .before .before .before .before .before .before .before .prepare .ensures) (c .before .before .before .before .before .enum-told2 .given .1) _ _ _ (omega arith) (c .before .loop .inv .2)
+returns-2 c = all-answered (fixed (c .before .before) .prepared) (c .before .before .before .before .before .before .before .prepare .ensures .0) (c .before .before .before .before .before .enum-told2 .given .1) _ _ _ (omega arith) (c .before .loop .inv .2)
 
 pub count-sets-spec : {M : Type 1} → statement M
 count-sets-spec =
