@@ -33,13 +33,16 @@ rows comparisons ts observed lower upper k (suc n) =
 unfoldable pub tableBytes : Bool → List ℕ → List ℕ → List ℕ → List ℕ → List ℕ
 tableBytes comparisons ts observed lower upper = header ++ (lineEnd ++ rows comparisons ts observed lower upper 0 (length ts))
 
--- 2: the four lists differ in length, or the list of bytes is too short; then 18 and 19
+-- 2: the lists differ in length; without comparison sets least and greatest are not looked at
+unfoldable pub columnsCheck : Bool → List ℕ → List ℕ → List ℕ → List ℕ → Check
+columnsCheck true ts observed lower upper = orElse (sameLength ts observed) (orElse (sameLength ts lower) (sameLength ts upper))
+columnsCheck false ts observed lower upper = sameLength ts observed
+
+-- 2 for the lists, and where the list of bytes is too short; then 18 and 19
 unfoldable pub tableBytesCheck : Bool → List ℕ → List ℕ → List ℕ → List ℕ → List ℕ → Check
 tableBytesCheck comparisons ts observed lower upper out =
-    orElse (sameLength ts observed)
-    (orElse (sameLength ts lower)
-    (orElse (sameLength ts upper)
-    (orElse (roomCheck (length (tableBytes comparisons ts observed lower upper)) out) (thresholdsCheck ts))))
+    orElse (columnsCheck comparisons ts observed lower upper)
+    (orElse (roomCheck (length (tableBytes comparisons ts observed lower upper)) out) (thresholdsCheck ts))
 
 pub record TablePrinted (comparisons : Bool) (ts observed lower upper out : List ℕ) (r : Printed) (out′ : List ℕ) : Type 0 where
   pub answer : r ≡ printedAnswer (tableBytesCheck comparisons ts observed lower upper out) (length (tableBytes comparisons ts observed lower upper))

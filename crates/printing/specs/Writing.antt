@@ -23,9 +23,3 @@ pub record Put (out : List ℕ) (place : ℕ) (bytes out′ : List ℕ) (r : ℕ
 unfoldable pub envelopeIf : Bool → ℕ → ℕ → Envelope
 envelopeIf true least greatest = between least greatest
 envelopeIf false least greatest = no-value
-
--- the rows' lists belong together
-pub record SameLengths (ts observed lower upper : List ℕ) : Type 0 where
-  pub same-observed : length ts ≡ length observed
-  pub same-lower : length ts ≡ length lower
-  pub same-upper : length ts ≡ length upper

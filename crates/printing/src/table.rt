@@ -2,16 +2,26 @@
 ghost use mathlib.Core.List.{_∷_, _++_};
 ghost use mathlib.Core.Path.{_≡_};
 ghost use lib.Dec.{leb};
-ghost use lib.ListN.{length};
-ghost use Rattle.printing.specs.Answers.{TablePrinted, rows, tableBytes, tableBytesCheck};
+ghost use lib.ListN.{length, getD};
+ghost use Rattle.printing.specs.Answers.{TablePrinted, columnsCheck, rows, tableBytes, tableBytesCheck};
 ghost use Rattle.printing.specs.Bytes.{comma, digits, row, span};
-ghost use Rattle.printing.specs.Writing.{Put, Room, SameLengths, envelopeIf};
+ghost use Rattle.printing.specs.Writing.{Put, Room, envelopeIf};
 use crate::answers::Printed;
 use crate::writing::digit_count;
 use crate::writing::put;
 use crate::writing::put_field;
 use crate::writing::put_number;
 use model::Check;
+
+// How many bytes the line of names takes.
+const NAMES: usize = 35;
+
+// An entry of a column, 0 behind its end.
+fn value_at(column: &[u32], k: usize) -> u32
+    ensures { λ r. ⌜ r ≡ getD (now (column .entry)) k 0 ⌝ }
+{
+    if k < column.len() { column[k] } else { 0 }
+}
 
 // How many bytes a comma and a number take.
 fn field_size(value: u32) -> usize
@@ -49,13 +59,18 @@ fn rows_fit(
     upper: &[u32],
     room: usize,
 ) -> bool
-    requires { ⌜ SameLengths (now thresholds) (now observed) (now lower) (now upper) ⌝ }
     ensures { λ r. ⌜ r ≡ leb (length (rows comparisons (now (thresholds .entry)) (now (observed .entry)) (now (lower .entry)) (now (upper .entry)) 0 (length (now (thresholds .entry))))) room ⌝ }
 {
     let mut left = room;
     let mut k = 0;
     while k < thresholds.len() {
-        let size = row_size(thresholds[k], observed[k], comparisons, lower[k], upper[k]);
+        let size = row_size(
+            thresholds[k],
+            value_at(observed, k),
+            comparisons,
+            value_at(lower, k),
+            value_at(upper, k),
+        );
         if left < size {
             return false;
         }
@@ -65,7 +80,32 @@ fn rows_fit(
     true
 }
 
-// 2: lists that differ in length, or too little room; then 18 and 19.
+// 2: columns that differ in length from the thresholds; least and greatest are looked at where there are comparison sets.
+fn check_columns(
+    comparisons: bool,
+    thresholds: &[u32],
+    observed: &[u32],
+    lower: &[u32],
+    upper: &[u32],
+) -> Check
+    ensures { λ r. ⌜ r ≡ columnsCheck comparisons (now (thresholds .entry)) (now (observed .entry)) (now (lower .entry)) (now (upper .entry)) ⌝ }
+{
+    if thresholds.len() != observed.len() {
+        return Check::Refused(Check::LISTS_DIFFER, 0);
+    }
+    if !comparisons {
+        return Check::Accepted;
+    }
+    if thresholds.len() != lower.len() {
+        return Check::Refused(Check::LISTS_DIFFER, 0);
+    }
+    if thresholds.len() != upper.len() {
+        return Check::Refused(Check::LISTS_DIFFER, 0);
+    }
+    Check::Accepted
+}
+
+// 2 for the columns, or too little room; then 18 and 19.
 fn check_table(
     comparisons: bool,
     thresholds: &[u32],
@@ -76,17 +116,11 @@ fn check_table(
 ) -> Check
     ensures { λ r. ⌜ r ≡ tableBytesCheck comparisons (now (thresholds .entry)) (now (observed .entry)) (now (lower .entry)) (now (upper .entry)) (now (out .entry)) ⌝ }
 {
-    if thresholds.len() != observed.len() {
-        return Check::Refused(Check::LISTS_DIFFER, 0);
+    let columns = check_columns(comparisons, thresholds, observed, lower, upper);
+    if let Check::Refused(_, _) = columns {
+        return columns;
     }
-    if thresholds.len() != lower.len() {
-        return Check::Refused(Check::LISTS_DIFFER, 0);
-    }
-    if thresholds.len() != upper.len() {
-        return Check::Refused(Check::LISTS_DIFFER, 0);
-    }
-    // The line of names.
-    if out.len() < 35 {
+    if out.len() < NAMES {
         return Check::Refused(Check::LISTS_DIFFER, 0);
     }
     if !rows_fit(
@@ -95,7 +129,7 @@ fn check_table(
         observed,
         lower,
         upper,
-        out.len() - 35,
+        out.len() - NAMES,
     ) {
         return Check::Refused(Check::LISTS_DIFFER, 0);
     }
@@ -141,7 +175,6 @@ fn put_rows(
     out: &mut [u8],
     start: usize,
 ) -> usize
-    requires { ⌜ SameLengths (now thresholds) (now observed) (now lower) (now upper) ⌝ }
     requires { ⌜ Room (now out) start (rows comparisons (now thresholds) (now observed) (now lower) (now upper) 0 (length (now thresholds))) ⌝ }
     ensures { λ r. ⌜ Put (now (out .entry)) start (rows comparisons (now (thresholds .entry)) (now (observed .entry)) (now (lower .entry)) (now (upper .entry)) 0 (length (now (thresholds .entry)))) (now (out .exit)) r ⌝ }
 {
@@ -152,10 +185,10 @@ fn put_rows(
             out,
             at,
             thresholds[k],
-            observed[k],
+            value_at(observed, k),
             comparisons,
-            lower[k],
-            upper[k],
+            value_at(lower, k),
+            value_at(upper, k),
         );
         k += 1;
     }
@@ -170,7 +203,6 @@ fn put_table(
     upper: &[u32],
     out: &mut [u8],
 ) -> usize
-    requires { ⌜ SameLengths (now thresholds) (now observed) (now lower) (now upper) ⌝ }
     requires { ⌜ Room (now out) 0 (tableBytes comparisons (now thresholds) (now observed) (now lower) (now upper)) ⌝ }
     ensures { λ r. ⌜ Put (now (out .entry)) 0 (tableBytes comparisons (now (thresholds .entry)) (now (observed .entry)) (now (lower .entry)) (now (upper .entry))) (now (out .exit)) r ⌝ }
 {
@@ -178,8 +210,8 @@ fn put_table(
     put_rows(comparisons, thresholds, observed, lower, upper, out, start)
 }
 
-// Prints the table; without comparisons, least and greatest are empty. Refuses by 2 (lists that differ in length, or a list of
-// bytes that is too short), 18 and 19.
+// Prints the table; without comparisons least and greatest are empty, and the last two columns may be anything. Refuses by 2 (columns
+// that differ in length from the thresholds, or a list of bytes that is too short), 18 and 19.
 pub fn print_table(
     comparisons: bool,
     thresholds: &[u32],

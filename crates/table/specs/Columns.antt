@@ -7,7 +7,7 @@ use Rattle.model.specs.Answer.{written}
 use Rattle.model.specs.Counting.{numbersFrom}
 use Rattle.model.specs.Envelope.{Envelope, between, envelopeOf}
 use Rattle.model.specs.declared.check.Check.the-variants as check
-use Rattle.table.specs.Table.{leasts, greatests, tableAnswer}
+use Rattle.table.specs.Table.{leasts, greatests, spanned, tableAnswer}
 use Rattle.table.specs.declared.answers.Table.{Table}
 use Rattle.table.specs.declared.spans.Span.{Span}
 
@@ -44,5 +44,5 @@ pub record ColumnsFilled (rows : List ℕ) (width greatest : ℕ) (first second 
 pub record ColumnsFit (rows : List ℕ) (width greatest : ℕ) (first second third : List ℕ) : Type 0 where
   pub rows-there : RowsThere rows width greatest
   pub first-room : width ≤ length first
-  pub second-room : width ≤ length second
-  pub third-room : width ≤ length third
+  pub second-room : spanned greatest width ≤ length second
+  pub third-room : spanned greatest width ≤ length third

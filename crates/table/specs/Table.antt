@@ -26,14 +26,23 @@ leasts envelopes = ends (λ lower upper. lower) envelopes
 unfoldable pub greatests : List Envelope → List ℕ
 greatests envelopes = ends (λ lower upper. upper) envelopes
 
--- 2 (each answer list has room for an entry to a threshold; every 2 is at place 0), 6 to 9, 12 to 16; then 18 and 19
+-- how many thresholds have a least and a greatest: all of them, or none where there are no comparison sets
+unfoldable pub spanned : ℕ → ℕ → ℕ
+spanned zero width = 0
+spanned (suc greatest) width = width
+
+-- 2 for the lists of least and greatest, at so many thresholds
+unfoldable pub spansCheck : List ℕ → ℕ → List ℕ → List ℕ → Check
+spansCheck sets width second third =
+    orElse (roomCheck (spanned (greatestSet sets) width) second) (roomCheck (spanned (greatestSet sets) width) third)
+
+-- 2 (each answer list has room for what it is to hold; every 2 is at place 0), 6 to 9, 12 to 16; then 18 and 19
 unfoldable pub tableCheck : Network → List ℕ → List ℕ → List ℕ → List ℕ → List ℕ → List ℕ → List ℕ → Check
 tableCheck net sets es xs ts first second third =
     orElse (roomCheck (length ts) first)
-    (orElse (roomCheck (length ts) second)
-    (orElse (roomCheck (length ts) third) (orElse (setsOverNetworkCheck net sets es xs) (thresholdsCheck ts))))
+    (orElse (spansCheck sets (length ts) second third) (orElse (setsOverNetworkCheck net sets es xs) (thresholdsCheck ts)))
 
--- a refusal's number and place; otherwise whether there are comparison sets, of which the number is told
+-- a refusal's number and place; otherwise whether there are comparison sets, given how many there are
 unfoldable pub tableAnswer : Check → ℕ → Table
 tableAnswer (check.Refused number place) comparisons = Refused number place
 tableAnswer check.Accepted zero = Observed

@@ -1,7 +1,7 @@
 -- The verdicts on what is to be printed, and what the answer and the list of bytes then are.
 use mathlib.Core.Bool.{Bool, true, false}
 use mathlib.Core.List.{List}
-use mathlib.Core.Path.{_≡_, sym, _∙_}
+use mathlib.Core.Path.{_≡_, refl, sym, _∙_}
 use Prim.Native.Nat.{ℕ, _+_, _-_, _≤_, _<_}
 use native.Mathlib.Nat.{zero-add}
 use native.Mathlib.Omega.{arith}
@@ -12,11 +12,11 @@ use Rattle.model.specs.Checks.{sameLength, roomCheck, thresholdsCheck}
 use Rattle.model.specs.Refusal.{orElse, unless}
 use Rattle.model.specs.declared.check.Check.{Check}
 use Rattle.model.specs.declared.check.Check.the-variants.{Accepted, Refused}
-use Rattle.model.proofs.Laws.CheckParts.{same-length-accepted, same-length-accepts, room-accepted, room-accepts}
+use Rattle.model.proofs.Laws.CheckParts.{same-length-accepts, room-accepted, room-accepts}
 use Rattle.model.proofs.Laws.Refusal.{both-accepted, or-else-accepted, or-else-next, or-else-refused, unless-refuses}
 use Rattle.printing.specs.declared.answers.Printed.the-variants as printed
-use Rattle.printing.specs.Answers.{printedAnswer, rows, tableBytes, tableBytesCheck}
-use Rattle.printing.specs.Writing.{Put, Room, SameLengths}
+use Rattle.printing.specs.Answers.{printedAnswer, rows, tableBytes, columnsCheck, tableBytesCheck}
+use Rattle.printing.specs.Writing.{Put, Room}
 use Rattle.printing.proofs.Laws.Sizes.{fits-behind, too-long}
 
 -- a refusal is answered
@@ -39,72 +39,85 @@ pub room-at-front : (bytes out : List ℕ) → length bytes ≤ length out → R
 unfolding Room
 room-at-front bytes out h = omega arith
 
+module _ (comparisons : Bool) (ts observed lower upper : List ℕ) where
+  -- columns that differ
+  pub differs-observed : (length ts ≡ length observed → ⊥) → Refused 2 0 ≡ columnsCheck comparisons ts observed lower upper
+  unfolding columnsCheck orElse sameLength unless
+  differs-observed h = go comparisons
+    where
+      go : (b : Bool) → Refused 2 0 ≡ columnsCheck b ts observed lower upper
+      go true = simp (ne-eqb (length ts) (length observed) h)
+      go false = simp (ne-eqb (length ts) (length observed) h)
+
+  module _ (o : length ts ≡ length observed) where
+    pub observed-alone : comparisons ≡ false → Accepted ≡ columnsCheck comparisons ts observed lower upper
+    unfolding columnsCheck
+    observed-alone none = rw none (sym (same-length-accepts ts observed o))
+
+    module _ (some : comparisons ≡ true) where
+      pub differs-lower : (length ts ≡ length lower → ⊥) → Refused 2 0 ≡ columnsCheck comparisons ts observed lower upper
+      unfolding columnsCheck orElse sameLength unless
+      differs-lower h = rw some (simp (eq-eqb (length ts) (length observed) o, ne-eqb (length ts) (length lower) h))
+
+      pub differs-upper : length ts ≡ length lower → (length ts ≡ length upper → ⊥) → Refused 2 0 ≡ columnsCheck comparisons ts observed lower upper
+      unfolding columnsCheck orElse sameLength unless
+      differs-upper l h = rw some (simp (eq-eqb (length ts) (length observed) o, eq-eqb (length ts) (length lower) l, ne-eqb (length ts) (length upper) h))
+
+    -- columns of one length
+    pub all-same : length ts ≡ length lower → length ts ≡ length upper → Accepted ≡ columnsCheck comparisons ts observed lower upper
+    unfolding columnsCheck orElse sameLength unless
+    all-same l u = go comparisons
+      where
+        go : (b : Bool) → Accepted ≡ columnsCheck b ts observed lower upper
+        go true = simp (eq-eqb (length ts) (length observed) o, eq-eqb (length ts) (length lower) l, eq-eqb (length ts) (length upper) u)
+        go false = simp (eq-eqb (length ts) (length observed) o)
+
 module _ (comparisons : Bool) (ts observed lower upper out : List ℕ) where
   -- the line of names has 35 bytes
   table-length : length (tableBytes comparisons ts observed lower upper) ≡ 35 + length (rows comparisons ts observed lower upper 0 (length ts))
   unfolding tableBytes
   table-length = omega arith
 
-  -- lists that differ
-  pub differs-observed : (length ts ≡ length observed → ⊥) → Refused 2 0 ≡ tableBytesCheck comparisons ts observed lower upper out
-  unfolding tableBytesCheck orElse sameLength unless
-  differs-observed h = simp (ne-eqb (length ts) (length observed) h)
+  -- a refusal of the columns decides
+  pub columns-refused : {r : Check} {number place : ℕ} → r ≡ columnsCheck comparisons ts observed lower upper → r ≡ Refused number place → r ≡ tableBytesCheck comparisons ts observed lower upper out
+  unfolding tableBytesCheck
+  columns-refused e told = told ∙ sym (or-else-refused _ (sym e ∙ told))
 
-  module _ (o : length ts ≡ length observed) where
-    pub differs-lower : (length ts ≡ length lower → ⊥) → Refused 2 0 ≡ tableBytesCheck comparisons ts observed lower upper out
-    unfolding tableBytesCheck orElse sameLength unless
-    differs-lower h = simp (eq-eqb (length ts) (length observed) o, ne-eqb (length ts) (length lower) h)
+  module _ {r : Check} (e : r ≡ columnsCheck comparisons ts observed lower upper) (told : r ≡ Accepted) where
+    -- of columns that belong together the room decides, then the thresholds
+    columns-decided : tableBytesCheck comparisons ts observed lower upper out ≡ orElse (roomCheck (length (tableBytes comparisons ts observed lower upper)) out) (thresholdsCheck ts)
+    unfolding tableBytesCheck
+    columns-decided = or-else-next _ (sym e ∙ told)
 
-    module _ (l : length ts ≡ length lower) where
-      pub differs-upper : (length ts ≡ length upper → ⊥) → Refused 2 0 ≡ tableBytesCheck comparisons ts observed lower upper out
-      unfolding tableBytesCheck orElse sameLength unless
-      differs-upper h = simp (eq-eqb (length ts) (length observed) o, eq-eqb (length ts) (length lower) l, ne-eqb (length ts) (length upper) h)
+    -- with too little room, no matter what the thresholds are
+    no-room : leb (length (tableBytes comparisons ts observed lower upper)) (length out) ≡ false → Refused 2 0 ≡ tableBytesCheck comparisons ts observed lower upper out
+    no-room n = sym (columns-decided ∙ or-else-refused _ (room-refused _ out n))
 
-      -- of lists that belong together the room decides, then the thresholds
-      lists-decided : length ts ≡ length upper → tableBytesCheck comparisons ts observed lower upper out ≡ orElse (roomCheck (length (tableBytes comparisons ts observed lower upper)) out) (thresholdsCheck ts)
-      unfolding tableBytesCheck
-      lists-decided u =
-          or-else-next _ (same-length-accepts ts observed o)
-          ∙ or-else-next _ (same-length-accepts ts lower l)
-          ∙ or-else-next _ (same-length-accepts ts upper u)
+    pub no-room-for-names : length out < 35 → Refused 2 0 ≡ tableBytesCheck comparisons ts observed lower upper out
+    no-room-for-names short = no-room (rw table-length (sym (too-long 35 _ (length out) short)))
 
-      -- with thresholds that pass, the room alone
-      pub room-decides : length ts ≡ length upper → thresholdsCheck ts ≡ Accepted → tableBytesCheck comparisons ts observed lower upper out ≡ roomCheck (length (tableBytes comparisons ts observed lower upper)) out
-      room-decides u pass = lists-decided u ∙ rw pass (or-else-accepted _)
+    -- whether the rows fit behind the line of names
+    module _ (enough : 35 ≤ length out) {fit : Bool} (measured : fit ≡ leb (length (rows comparisons ts observed lower upper 0 (length ts))) (length out - 35)) where
+      rows-decide : leb (length (rows comparisons ts observed lower upper 0 (length ts))) (length out - 35) ≡ leb (length (tableBytes comparisons ts observed lower upper)) (length out)
+      rows-decide = rw table-length (fits-behind 35 _ (length out) enough)
 
-      -- with too little room, no matter what the thresholds are
-      no-room : length ts ≡ length upper → leb (length (tableBytes comparisons ts observed lower upper)) (length out) ≡ false → Refused 2 0 ≡ tableBytesCheck comparisons ts observed lower upper out
-      no-room u e = sym (lists-decided u ∙ or-else-refused _ (room-refused _ out e))
+      pub no-room-for-rows : fit ≡ false → Refused 2 0 ≡ tableBytesCheck comparisons ts observed lower upper out
+      no-room-for-rows n = no-room (sym rows-decide ∙ sym measured ∙ n)
 
-      pub no-room-for-names : length ts ≡ length upper → length out < 35 → Refused 2 0 ≡ tableBytesCheck comparisons ts observed lower upper out
-      no-room-for-names u short = no-room u (rw table-length (sym (too-long 35 _ (length out) short)))
+      -- of a table that fits the thresholds decide
+      pub table-fits : {s : Check} → fit ≡ true → s ≡ thresholdsCheck ts → s ≡ tableBytesCheck comparisons ts observed lower upper out
+      table-fits y rest =
+          let fits = leb-true _ _ (sym rows-decide ∙ sym measured ∙ y) in
+          rest ∙ sym (columns-decided ∙ or-else-next _ (room-accepts _ out fits))
 
-      -- whether the rows fit behind the line of names
-      rows-decide : 35 ≤ length out → leb (length (rows comparisons ts observed lower upper 0 (length ts))) (length out - 35) ≡ leb (length (tableBytes comparisons ts observed lower upper)) (length out)
-      rows-decide enough = rw table-length (fits-behind 35 _ (length out) enough)
-
-      module _ (u : length ts ≡ length upper) (enough : 35 ≤ length out) {fit : Bool} (told : fit ≡ leb (length (rows comparisons ts observed lower upper 0 (length ts))) (length out - 35)) where
-        pub no-room-for-rows : fit ≡ false → Refused 2 0 ≡ tableBytesCheck comparisons ts observed lower upper out
-        no-room-for-rows e = no-room u (sym (rows-decide enough) ∙ sym told ∙ e)
-
-        -- of a table that fits the thresholds decide
-        pub table-fits : {r : Check} → fit ≡ true → r ≡ thresholdsCheck ts → r ≡ tableBytesCheck comparisons ts observed lower upper out
-        table-fits e rest =
-            let fits = leb-true _ _ (sym (rows-decide enough) ∙ sym told ∙ e) in
-            rest ∙ sym (lists-decided u ∙ or-else-next _ (room-accepts _ out fits))
+  -- with columns of one length and thresholds that pass, the room alone decides
+  pub room-decides : length ts ≡ length observed → length ts ≡ length lower → length ts ≡ length upper → thresholdsCheck ts ≡ Accepted → tableBytesCheck comparisons ts observed lower upper out ≡ roomCheck (length (tableBytes comparisons ts observed lower upper)) out
+  room-decides o l u pass = columns-decided (all-same comparisons ts observed lower upper o l u) refl ∙ rw pass (or-else-accepted _)
 
   -- what acceptance tells
-  pub accepted-table : tableBytesCheck comparisons ts observed lower upper out ≡ Accepted → SameLengths ts observed lower upper × Room out 0 (tableBytes comparisons ts observed lower upper)
+  pub accepted-table : tableBytesCheck comparisons ts observed lower upper out ≡ Accepted → Room out 0 (tableBytes comparisons ts observed lower upper)
   unfolding tableBytesCheck
   accepted-table e =
-      let from-observed = both-accepted _ _ e in
-      let from-lower = both-accepted _ _ (from-observed .1) in
-      let from-upper = both-accepted _ _ (from-lower .1) in
-      let from-room = both-accepted _ _ (from-upper .1) in (
-        record {
-          same-observed = same-length-accepted ts observed (from-observed .0);
-          same-lower = same-length-accepted ts lower (from-lower .0);
-          same-upper = same-length-accepted ts upper (from-upper .0);
-        },
-        room-at-front _ out (room-accepted _ out (from-room .0)),
-      )
+      let from-columns = both-accepted _ _ e in
+      let from-room = both-accepted _ _ (from-columns .1) in
+      room-at-front _ out (room-accepted _ out (from-room .0))

@@ -22,7 +22,7 @@ use Rattle.prepare.specs.Counts.{CountsAnswered, countsCheck, countTable}
 use Rattle.prepare.proofs.Laws.Verdict.{with-room}
 use Rattle.validate.proofs.SetSizes.{greatest-small}
 use Rattle.table.specs.Columns.{ColumnsFilled, ColumnsFit, columns}
-use Rattle.table.specs.Table.{TableAnswered, tableAnswer, tableCheck}
+use Rattle.table.specs.Table.{TableAnswered, spanned, spansCheck, tableAnswer, tableCheck}
 use Rattle.table.specs.declared.answers.Table.{Table}
 use Rattle.table.specs.declared.answers.Table.the-variants.{Refused}
 use Rattle.table.proofs.Laws.Counted.{observed-row, columns-are}
@@ -35,8 +35,8 @@ mostCounts = 2048
 pub record TableAccepted (net : Network) (sets es xs ts first second third : List ℕ) : Type 0 where
   pub accepted : tableCheck net sets es xs ts first second third ≡ check.Accepted
   pub first-room : length ts ≤ length first
-  pub second-room : length ts ≤ length second
-  pub third-room : length ts ≤ length third
+  pub second-room : spanned (greatestSet sets) (length ts) ≤ length second
+  pub third-room : spanned (greatestSet sets) (length ts) ≤ length third
   pub few-counts : setCount sets * length ts ≤ mostCounts
   pub counts-accepted : countsCheck net sets es xs ts mostCounts ≡ check.Accepted
 
@@ -58,21 +58,21 @@ module _ {net : Network} {sets es xs ts first second third : List ℕ} where
       }
 
   pub table-accepted : {r : Check} → r ≡ tableCheck net sets es xs ts first second third → r ≡ check.Accepted → TableAccepted net sets es xs ts first second third
-  unfolding tableCheck setCount
+  unfolding tableCheck spansCheck setCount
   table-accepted e told =
       let ok = sym e ∙ told in
       let one = both-accepted _ _ ok in
       let two = both-accepted _ _ (one .1) in
-      let three = both-accepted _ _ (two .1) in
-      let rest = both-accepted (setsOverNetworkCheck net sets es xs) (thresholdsCheck ts) (three .1) in
+      let spans = both-accepted _ _ (two .0) in
+      let rest = both-accepted (setsOverNetworkCheck net sets es xs) (thresholdsCheck ts) (two .1) in
       let few-sets : greatestSet sets ≤ maxSet = greatest-small sets maxSet (sets-accepted net sets es xs (rest .0) .numbers) in
       let sets-to : suc (greatestSet sets) ≤ suc maxSet = omega arith in
       let few-counts : suc (greatestSet sets) * length ts ≤ suc maxSet * maxThresholds = mul-le-mul sets-to (thresholds-accepted ts (rest .1) .few) in
       record {
         accepted = ok;
         first-room = room-accepted _ first (one .0);
-        second-room = room-accepted _ second (two .0);
-        third-room = room-accepted _ third (three .0);
+        second-room = room-accepted _ second (spans .0);
+        third-room = room-accepted _ third (spans .1);
         few-counts = few-counts;
         counts-accepted = sym (with-room net sets es xs ts mostCounts (le-leb _ _ few-counts)) ∙ both-accept (rest .0) (rest .1);
       }
@@ -88,8 +88,8 @@ module _ {net : Network} {sets es xs ts first second third : List ℕ} where
         record {
           rows-there = record { there = rw greatest (omega (arith, a .few-counts)) };
           first-room = a .first-room;
-          second-room = a .second-room;
-          third-room = a .third-room;
+          second-room = rw greatest (a .second-room);
+          third-room = rw greatest (a .third-room);
         }
 
     pub table-answered : {answer : Table} {first′ second′ third′ : List ℕ} → ColumnsFilled rows (length ts) g first second third answer first′ second′ third′ → TableAnswered net sets es xs ts first second third answer first′ second′ third′

@@ -11,12 +11,23 @@ use Rattle.model.specs.Counting.{numbersFrom}
 use Rattle.model.specs.Envelope.{Envelope, no-value, envelopeOf}
 use Rattle.model.specs.declared.check.Check.the-variants as check
 use Rattle.table.specs.Columns.{RowsThere, ColumnsFilled, ColumnsFit, columnFrom, columns}
-use Rattle.table.specs.Table.{ends, leasts, greatests, tableAnswer}
+use Rattle.table.specs.Table.{ends, leasts, greatests, spanned, tableAnswer}
 use Rattle.table.specs.declared.answers.Table.the-variants.{Observed, Compared}
 
 -- the first row is there
 pub first-row : {rows : List ℕ} {width greatest : ℕ} → RowsThere rows width greatest → width ≤ length rows
 first-row {width = width} {greatest = greatest} r = omega (arith, r .there, suc-mul greatest width)
+
+-- how many thresholds have a least and a greatest
+pub spanned-none : (greatest width : ℕ) → greatest ≡ 0 → 0 ≡ spanned greatest width
+unfolding spanned
+spanned-none zero width e = refl
+spanned-none (suc greatest) width e = absurd (omega arith)
+
+pub spanned-all : (greatest width : ℕ) → (greatest ≡ 0 → ⊥) → width ≡ spanned greatest width
+unfolding spanned
+spanned-all zero width some = absurd (some refl)
+spanned-all (suc greatest) width some = refl
 
 -- answers that were put into the front of a list
 front-written : (answers old new : List ℕ) (n : ℕ) → new ≡ answers → length new ≡ n → new ++ drop n old ≡ written check.Accepted answers old
@@ -33,6 +44,14 @@ module _ {rows : List ℕ} {width greatest : ℕ} {first second third : List ℕ
   observed-written : (new : List ℕ) → new ≡ take width rows → new ++ drop width first ≡ written check.Accepted (take width rows) first
   observed-written new e =
       front-written (take width rows) first new width e (ap length e ∙ length-take-le width rows (first-row (fit .rows-there)))
+
+  -- with comparison sets there is room for an entry to a threshold
+  module _ (some : 1 ≤ greatest) where
+    pub second-fits : width ≤ length second
+    second-fits = omega (arith, spanned-all greatest width (λ e. omega arith), fit .second-room)
+
+    pub third-fits : width ≤ length third
+    third-fits = omega (arith, spanned-all greatest width (λ e. omega arith), fit .third-room)
 
   -- without comparison sets
   pub observed-alone : (new : List ℕ) → greatest ≡ 0 → new ≡ take width rows → ColumnsFilled rows width greatest first second third Observed (new ++ drop width first) second third

@@ -14,7 +14,7 @@ abbrev μ-loop : tie.MeasureT-loop
 μ-loop comparisons thresholds observed lower upper out₀ start at₀ k₀ out at k = length thresholds - k
 
 loop-holds : tie.Need-loop-holds Inv-loop μ-loop
-loop-holds c = rows-start _ _ _ _ _ (c .before .before .before .before .before .pre .1)
+loop-holds c = rows-start _ _ _ _ _ (c .before .before .before .before .before .pre)
 
 mul-put-row : tie.Need-mul-put-row Inv-loop μ-loop
 mul-put-row c = omega arith
@@ -22,26 +22,19 @@ mul-put-row c = omega arith
 shared-slice-read-put-row : tie.Need-shared-slice-read-put-row Inv-loop μ-loop
 shared-slice-read-put-row c = omega arith
 
-mul-put-row-2 : tie.Need-mul-put-row-2 Inv-loop μ-loop
-mul-put-row-2 c = omega arith
+value-at-requires : tie.Need-value-at-requires Inv-loop μ-loop
+value-at-requires c κs = search needs
 
-shared-slice-read-put-row-2 : tie.Need-shared-slice-read-put-row-2 Inv-loop μ-loop
-shared-slice-read-put-row-2 c = omega arith
+value-at-requires-2 : tie.Need-value-at-requires-2 Inv-loop μ-loop
+value-at-requires-2 c κs = search needs
 
-mul-put-row-3 : tie.Need-mul-put-row-3 Inv-loop μ-loop
-mul-put-row-3 c = omega arith
-
-shared-slice-read-put-row-3 : tie.Need-shared-slice-read-put-row-3 Inv-loop μ-loop
-shared-slice-read-put-row-3 c = omega arith
-
-mul-put-row-4 : tie.Need-mul-put-row-4 Inv-loop μ-loop
-mul-put-row-4 c = omega arith
-
-shared-slice-read-put-row-4 : tie.Need-shared-slice-read-put-row-4 Inv-loop μ-loop
-shared-slice-read-put-row-4 c = omega arith
+value-at-requires-3 : tie.Need-value-at-requires-3 Inv-loop μ-loop
+value-at-requires-3 c κs = search needs
 
 put-row-requires : tie.Need-put-row-requires Inv-loop μ-loop
-put-row-requires c κs = row-room _ _ _ _ _ (c .before .before .before .before .before .before .loop .inv) (c .before .before .before .before .before .loop-test .taken)
+put-row-requires c κs =
+    rw (c .before .before .value-at .ensures, c .before .value-at2 .ensures, c .value-at3 .ensures)
+    (row-room _ _ _ _ _ (c .before .before .before .before .before .before .loop .inv) (c .before .before .before .before .before .loop-test .taken))
 
 add-k : tie.Need-add-k Inv-loop μ-loop
 add-k c = omega arith
@@ -50,7 +43,9 @@ loop-less : tie.Need-loop-less Inv-loop μ-loop
 loop-less c = omega arith
 
 loop-again : tie.Need-loop-again Inv-loop μ-loop
-loop-again c = row-put _ _ _ _ _ (c .before .before .before .before .before .before .before .before .before .loop .inv) (c .before .before .before .before .before .before .before .before .loop-test .taken) (c .before .before .put-row .kept .0) (c .before .before .put-row .ensures)
+loop-again c =
+    row-put _ _ _ _ _ (c .before .before .before .before .before .before .before .before .before .loop .inv) (c .before .before .before .before .before .before .before .before .loop-test .taken) (c .before .before .put-row .kept .0)
+    (rw (c .before .before .before .before .before .value-at .ensures, c .before .before .before .before .value-at2 .ensures, c .before .before .before .value-at3 .ensures) at (c .before .before .put-row .ensures))
 
 same-length : tie.Need-same-length Inv-loop μ-loop
 same-length c = search needs
@@ -67,12 +62,9 @@ put-rows-spec =
     loop-holds
     mul-put-row
     shared-slice-read-put-row
-    mul-put-row-2
-    shared-slice-read-put-row-2
-    mul-put-row-3
-    shared-slice-read-put-row-3
-    mul-put-row-4
-    shared-slice-read-put-row-4
+    value-at-requires
+    value-at-requires-2
+    value-at-requires-3
     put-row-requires
     add-k
     loop-less

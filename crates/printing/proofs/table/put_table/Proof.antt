@@ -12,18 +12,18 @@ slice-aggregate-put c = search needs
 
 put-requires : tie.Need-put-requires
 unfolding tableBytes
-put-requires c κs = first-room _ _ (header ++ lineEnd) (rows _ _ _ _ _ _ _) (c .before .before .before .before .before .before .before .pre .1)
+put-requires c κs = first-room _ _ (header ++ lineEnd) (rows _ _ _ _ _ _ _) (c .before .before .before .before .before .before .before .pre)
 
 put-rows-requires : tie.Need-put-rows-requires
 unfolding tableBytes
-put-rows-requires c κs = (c .before .before .before .before .before .before .before .before .before .before .before .pre .0, second-room _ _ (header ++ lineEnd) (rows _ _ _ _ _ _ _) (c .before .before .before .before .before .before .before .before .before .before .before .pre .1) (c .before .before .before .put .ensures))
+put-rows-requires c κs = second-room _ _ (header ++ lineEnd) (rows _ _ _ _ _ _ _) (c .before .before .before .before .before .before .before .before .before .before .before .pre) (c .before .before .before .put .ensures)
 
 same-length : tie.Need-same-length
 same-length c = search needs
 
 returns : tie.Need-returns
 unfolding tableBytes
-returns c = both-put _ _ (header ++ lineEnd) (rows _ _ _ _ _ _ _) (c .before .before .before .before .before .before .before .before .before .before .before .before .before .before .pre .1) (c .before .before .before .before .before .before .put .ensures) (c .before .before .put-rows .ensures)
+returns c = both-put _ _ (header ++ lineEnd) (rows _ _ _ _ _ _ _) (c .before .before .before .before .before .before .before .before .before .before .before .before .before .before .pre) (c .before .before .before .before .before .before .put .ensures) (c .before .before .put-rows .ensures)
 
 pub put-table-spec : {M : Type 1} → statement M
 put-table-spec =

@@ -22,29 +22,22 @@ mul-row-size c = omega arith
 shared-slice-read-row-size : tie.Need-shared-slice-read-row-size Inv-loop μ-loop
 shared-slice-read-row-size c = omega arith
 
-mul-row-size-2 : tie.Need-mul-row-size-2 Inv-loop μ-loop
-mul-row-size-2 c = omega arith
+value-at-requires : tie.Need-value-at-requires Inv-loop μ-loop
+value-at-requires c κs = search needs
 
-shared-slice-read-row-size-2 : tie.Need-shared-slice-read-row-size-2 Inv-loop μ-loop
-shared-slice-read-row-size-2 c = omega arith
+value-at-requires-2 : tie.Need-value-at-requires-2 Inv-loop μ-loop
+value-at-requires-2 c κs = search needs
 
-mul-row-size-3 : tie.Need-mul-row-size-3 Inv-loop μ-loop
-mul-row-size-3 c = omega arith
-
-shared-slice-read-row-size-3 : tie.Need-shared-slice-read-row-size-3 Inv-loop μ-loop
-shared-slice-read-row-size-3 c = omega arith
-
-mul-row-size-4 : tie.Need-mul-row-size-4 Inv-loop μ-loop
-mul-row-size-4 c = omega arith
-
-shared-slice-read-row-size-4 : tie.Need-shared-slice-read-row-size-4 Inv-loop μ-loop
-shared-slice-read-row-size-4 c = omega arith
+value-at-requires-3 : tie.Need-value-at-requires-3 Inv-loop μ-loop
+value-at-requires-3 c κs = search needs
 
 row-size-requires : tie.Need-row-size-requires Inv-loop μ-loop
 row-size-requires c κs = search needs
 
 returns : tie.Need-returns Inv-loop μ-loop
-returns c = no-fit _ _ _ _ _ (c .before .before .before .before .before .before .before .loop .inv) (c .before .before .before .before .before .before .loop-test .taken) (c .before .row-size .ensures) (c .if1 .taken)
+returns c =
+    no-fit _ _ _ _ _ (c .before .before .before .before .before .before .before .loop .inv) (c .before .before .before .before .before .before .loop-test .taken)
+    (rw (c .before .before .before .before .value-at .ensures, c .before .before .before .value-at2 .ensures, c .before .before .value-at3 .ensures) at (c .before .row-size .ensures)) (c .if1 .taken)
 
 add-k : tie.Need-add-k Inv-loop μ-loop
 add-k c = omega arith
@@ -53,7 +46,9 @@ loop-less : tie.Need-loop-less Inv-loop μ-loop
 loop-less c = omega arith
 
 loop-again : tie.Need-loop-again Inv-loop μ-loop
-loop-again c = fit-more _ _ _ _ _ (c .before .before .before .before .before .before .before .loop .inv) (c .before .before .before .before .before .before .loop-test .taken) (c .before .row-size .ensures) (c .if1 .left)
+loop-again c =
+    fit-more _ _ _ _ _ (c .before .before .before .before .before .before .before .loop .inv) (c .before .before .before .before .before .before .loop-test .taken)
+    (rw (c .before .before .before .before .value-at .ensures, c .before .before .before .value-at2 .ensures, c .before .before .value-at3 .ensures) at (c .before .row-size .ensures)) (c .if1 .left)
 
 returns-2 : tie.Need-returns-2 Inv-loop μ-loop
 returns-2 c = all-fit _ _ _ _ _ (c .before .loop .inv) (c .loop-test .left)
@@ -67,12 +62,9 @@ rows-fit-spec =
     loop-holds
     mul-row-size
     shared-slice-read-row-size
-    mul-row-size-2
-    shared-slice-read-row-size-2
-    mul-row-size-3
-    shared-slice-read-row-size-3
-    mul-row-size-4
-    shared-slice-read-row-size-4
+    value-at-requires
+    value-at-requires-2
+    value-at-requires-3
     row-size-requires
     returns
     add-k

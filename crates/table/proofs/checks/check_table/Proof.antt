@@ -17,8 +17,8 @@ returns c = search (stops-here, goes-on) depth 9
 enum-told-2 : tie.Need-enum-told-2
 enum-told-2 c = search needs
 
-check-room-requires-2 : tie.Need-check-room-requires-2
-check-room-requires-2 c κs = search needs
+check-spans-requires : tie.Need-check-spans-requires
+check-spans-requires c κs = search needs
 
 enum-told-3 : tie.Need-enum-told-3
 enum-told-3 c = search needs
@@ -30,8 +30,8 @@ returns-2 c = search (stops-here, goes-on) depth 9
 enum-told-4 : tie.Need-enum-told-4
 enum-told-4 c = search needs
 
-check-room-requires-3 : tie.Need-check-room-requires-3
-check-room-requires-3 c κs = search needs
+check-sets-requires : tie.Need-check-sets-requires
+check-sets-requires c κs = search needs
 
 enum-told-5 : tie.Need-enum-told-5
 enum-told-5 c = search needs
@@ -43,25 +43,12 @@ returns-3 c = search (stops-here, goes-on) depth 9
 enum-told-6 : tie.Need-enum-told-6
 enum-told-6 c = search needs
 
-check-sets-requires : tie.Need-check-sets-requires
-check-sets-requires c κs = search needs
-
-enum-told-7 : tie.Need-enum-told-7
-enum-told-7 c = search needs
+check-thresholds-requires : tie.Need-check-thresholds-requires
+check-thresholds-requires c κs = search needs
 
 returns-4 : tie.Need-returns-4
 unfolding tableCheck
 returns-4 c = search (stops-here, goes-on) depth 9
-
-enum-told-8 : tie.Need-enum-told-8
-enum-told-8 c = search needs
-
-check-thresholds-requires : tie.Need-check-thresholds-requires
-check-thresholds-requires c κs = search needs
-
-returns-5 : tie.Need-returns-5
-unfolding tableCheck
-returns-5 c = search (stops-here, goes-on) depth 9
 
 pub check-table-spec : {M : Type 1} → statement M
 check-table-spec =
@@ -71,17 +58,13 @@ check-table-spec =
     enum-told
     returns
     enum-told-2
-    check-room-requires-2
+    check-spans-requires
     enum-told-3
     returns-2
     enum-told-4
-    check-room-requires-3
+    check-sets-requires
     enum-told-5
     returns-3
     enum-told-6
-    check-sets-requires
-    enum-told-7
-    returns-4
-    enum-told-8
     check-thresholds-requires
-    returns-5)
+    returns-4)

@@ -2,7 +2,7 @@
 use mathlib.Core.Path.{sym, _∙_}
 use native.Mathlib.Omega.{arith}
 use lib.Seq.{length-take-le}
-use Rattle.table.proofs.Laws.Columns.{first-row, observed-alone, all-columns}
+use Rattle.table.proofs.Laws.Columns.{first-row, second-fits, third-fits, observed-alone, all-columns}
 use borrow.Author.Needs.{needs}
 use Rattle.table.proofs.columns.fill_columns.Statement.{statement}
 use Rattle.table.proofs.columns.fill_columns.Tie as tie
@@ -26,19 +26,19 @@ returns : tie.Need-returns
 returns c = observed-alone (c .before .before .before .before .before .before .before .before .before .before .pre) _ (omega arith) (c .before .before .before .copy .ensures)
 
 slice-relend-prefix-fill-spans : tie.Need-slice-relend-prefix-fill-spans
-slice-relend-prefix-fill-spans c = search needs
+slice-relend-prefix-fill-spans c = second-fits (c .before .before .before .before .before .before .before .before .before .before .pre) (omega arith)
 
 slice-aggregate-fill-spans : tie.Need-slice-aggregate-fill-spans
-slice-aggregate-fill-spans c = sym (length-take-le _ _ (c .before .before .before .before .before .before .before .before .before .before .before .pre .second-room))
+slice-aggregate-fill-spans c = sym (length-take-le _ _ (second-fits (c .before .before .before .before .before .before .before .before .before .before .before .pre) (omega arith)))
 
 slice-relend-prefix-fill-spans-2 : tie.Need-slice-relend-prefix-fill-spans-2
-slice-relend-prefix-fill-spans-2 c = search needs
+slice-relend-prefix-fill-spans-2 c = third-fits (c .before .before .before .before .before .before .before .before .before .before .before .pre) (omega arith)
 
 slice-aggregate-fill-spans-2 : tie.Need-slice-aggregate-fill-spans-2
-slice-aggregate-fill-spans-2 c = sym (length-take-le _ _ (c .before .before .before .before .before .before .before .before .before .before .before .before .pre .third-room))
+slice-aggregate-fill-spans-2 c = sym (length-take-le _ _ (third-fits (c .before .before .before .before .before .before .before .before .before .before .before .before .pre) (omega arith)))
 
 fill-spans-requires : tie.Need-fill-spans-requires
-fill-spans-requires c κs = (c .before .before .before .before .before .before .before .before .before .before .before .before .pre .rows-there, omega arith, length-take-le _ _ (c .before .before .before .before .before .before .before .before .before .before .before .before .pre .second-room), length-take-le _ _ (c .before .before .before .before .before .before .before .before .before .before .before .before .pre .third-room))
+fill-spans-requires c κs = (c .before .before .before .before .before .before .before .before .before .before .before .before .pre .rows-there, omega arith, length-take-le _ _ (second-fits (c .before .before .before .before .before .before .before .before .before .before .before .before .pre) (omega arith)), length-take-le _ _ (third-fits (c .before .before .before .before .before .before .before .before .before .before .before .before .pre) (omega arith)))
 
 same-length-2 : tie.Need-same-length-2
 same-length-2 c = search needs
@@ -54,8 +54,8 @@ returns-2 c =
     let start = c .before .before .before .before .before .before .before .before .before .before .before .before .before .before .before .before .before in
     let spans = c .before .before .before .before .fill-spans in
     all-columns (start .pre) _ _ _ (omega arith) (c .before .before .before .before .before .before .before .before .before .before .copy .ensures)
-    (spans .ensures .0) (spans .kept .1 .1 .1 .0 ∙ length-take-le _ _ (start .pre .second-room))
-    (spans .ensures .1) (spans .kept .1 .1 .1 .1 .0 ∙ length-take-le _ _ (start .pre .third-room))
+    (spans .ensures .0) (spans .kept .1 .1 .1 .0 ∙ length-take-le _ _ (second-fits (start .pre) (omega arith)))
+    (spans .ensures .1) (spans .kept .1 .1 .1 .1 .0 ∙ length-take-le _ _ (third-fits (start .pre) (omega arith)))
 
 pub fill-columns-spec : {M : Type 1} → statement M
 fill-columns-spec =
