@@ -1,8 +1,11 @@
--- Laws of digits, of the sizes of lines, and of bytes that are put one behind the other.
+-- Laws of digits, of the sizes of lines, of bytes that are put one behind the other, and of texts that are read back.
 pub mod Chains
 pub mod Digits
+pub mod Lacking
 pub mod Reading
 pub mod Rows
 pub mod Sizes
+pub mod TextFields
+pub mod TextLines
 pub mod Verdict
 pub mod Writing

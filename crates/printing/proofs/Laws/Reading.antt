@@ -25,7 +25,7 @@ unfolding allDigits isDigit
 one-all-digits d h = simp (true-between 48 57 (48 + d) (omega arith) (omega arith))
 
 -- digits are digits
-all-digits : (more n : ℕ) → allDigits (lastDigits more n) ≡ true
+pub all-digits : (more n : ℕ) → allDigits (lastDigits more n) ≡ true
 unfolding lastDigits allDigits
 all-digits zero n = refl
 all-digits (suc more) n = small-or-not n
@@ -56,7 +56,7 @@ few-digits (suc more) (suc k) n h = small-or-not n
     (λ g. rw (length-more more n g) (omega (arith, few-digits more k (n / 10) (div-below n (suc k) h))))
 
 -- there is a digit at least
-some-digits : (more n : ℕ) → 1 ≤ length (lastDigits (suc more) n)
+pub some-digits : (more n : ℕ) → 1 ≤ length (lastDigits (suc more) n)
 some-digits more n = small-or-not n (λ s. rw (one-digit more n s) (omega arith)) (λ g. rw (length-more more n g) (omega arith))
 
 -- the first digit of a number other than 0 is not 0
