@@ -7,5 +7,7 @@ pub mod Rows
 pub mod Sizes
 pub mod TextFields
 pub mod TextLines
+pub mod TextRows
+pub mod ThresholdsRead
 pub mod Verdict
 pub mod Writing

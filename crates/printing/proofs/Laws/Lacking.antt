@@ -2,15 +2,16 @@
 use mathlib.Core.Bool.{Bool, true, false, _&&_, not, and-assoc}
 use mathlib.Core.List.{List, [], _∷_, _++_, map}
 use mathlib.Core.Path.{_≡_, refl, _∙_}
-use Prim.Native.Nat.{ℕ, _<_}
+use Prim.Native.Nat.{ℕ, _≤_, _<_}
 use native.Mathlib.Omega.{arith}
 use borrow.Author.Tests.{ne-eqb, not-true}
 use lib.Dec.{eqb}
+use lib.ListN.{length, length-append}
 use Rattle.model.proofs.Laws.Refusal.{both-true, between-true}
 use Rattle.text.specs.Numbers.{isDigit, allDigits}
 use Rattle.printing.specs.Bytes.{digits}
 use Rattle.printing.specs.Texts.{parted, numbered}
-use Rattle.printing.proofs.Laws.Reading.{all-digits}
+use Rattle.printing.proofs.Laws.Reading.{all-digits, some-digits}
 
 -- the byte x is none of a line's
 unfoldable pub lacks : ℕ → List ℕ → Bool
@@ -62,3 +63,13 @@ module _ (x : ℕ) (below : x < 48) where
   numbered-lack sep other (n ∷ []) = digits-lack n
   numbered-lack sep other (n ∷ m ∷ more) =
       lacks-append x (digits n) (sep ∷ parted sep (map digits (m ∷ more))) ∙ simp (digits-lack n, other, numbered-lack sep other (m ∷ more))
+
+-- numbers with a separator between them, one at least, hold a byte
+pub digits-some : (n : ℕ) → 1 ≤ length (digits n)
+unfolding digits
+digits-some n = some-digits 19 n
+
+pub numbered-some : (sep n : ℕ) (more : List ℕ) → 1 ≤ length (numbered sep (n ∷ more))
+unfolding numbered parted
+numbered-some sep n [] = digits-some n
+numbered-some sep n (m ∷ more) = rw length-append (omega arith)

@@ -1,6 +1,6 @@
 -- The lines of a text that was joined from lines are those lines.
 use mathlib.Core.Bool.{Bool, true, false, cond, _&&_, not}
-use mathlib.Core.List.{List, [], _∷_, _++_, append-nil}
+use mathlib.Core.List.{List, [], _∷_, _++_, map, append-nil}
 use mathlib.Core.Path.{_≡_, refl, sym, ap, _∙_}
 use Prim.Native.Nat.{ℕ, _≤_}
 use native.Mathlib.Omega.{arith}
@@ -9,13 +9,29 @@ use Rattle.model.proofs.Laws.Refusal.{both-true}
 use Rattle.text.specs.Lines.{lineFeed, carriageReturn, inFront, feedLines, csvLines}
 use Rattle.printing.specs.Bytes.{lineEnd}
 use Rattle.printing.specs.Texts.{joined}
-use Rattle.printing.proofs.Laws.Lacking.{lacks, allLack, first-other}
+use Rattle.printing.proofs.Laws.Lacking.{lacks, allLack, first-other, map-lack}
 
 -- the last line of a text; of no lines an empty one
 unfoldable pub lastLine : List (List ℕ) → List ℕ
 lastLine [] = []
 lastLine (line ∷ []) = line
 lastLine (line ∷ next ∷ more) = lastLine (next ∷ more)
+
+-- a line that is read back with its end and without it: it lacks the end's first byte and holds another
+pub record Plain (mark : ℕ) (line : List ℕ) : Type 0 where
+  pub free : lacks mark line ≡ true
+  pub some : 1 ≤ length line
+
+-- Lines made one from each of a list, behind a first one.
+module _ {A : Type 0} (mark : ℕ) (line : A → List ℕ) (each : (a : A) → Plain mark (line a)) where
+  plain-free : (first : List ℕ) → Plain mark first → (all : List A) → allLack mark (first ∷ map line all) ≡ true
+  unfolding allLack
+  plain-free first plain all = simp (plain .free, map-lack mark line (λ a. each a .free) all)
+
+  plain-last : (first : List ℕ) → Plain mark first → (all : List A) → 1 ≤ length (lastLine (first ∷ map line all))
+  unfolding lastLine
+  plain-last first plain [] = plain .some
+  plain-last first plain (a ∷ more) = plain-last (line a) (each a) more
 
 -- Lines of one kind: `mark` is the first byte of their end, which no line holds.
 module _
@@ -36,6 +52,11 @@ module _
       let both = both-true (lacks mark line) (allLack mark (next ∷ more)) free in
       ended line (joined end closed (next ∷ more)) (both .0)
       ∙ ap (λ (rest : List (List ℕ)). line ∷ rest) (joined-lines closed (next ∷ more) (both .1) last)
+
+  -- so are a first line and those of a list
+  joined-rows : (closed : Bool) (first : List ℕ) → Plain mark first → {A : Type 0} (line : A → List ℕ) → ((a : A) → Plain mark (line a)) → (all : List A) → lines (joined end closed (first ∷ map line all)) ≡ first ∷ map line all
+  joined-rows closed first plain line each all =
+      joined-lines closed (first ∷ map line all) (plain-free mark line each first plain all) (λ _. plain-last mark line each first plain all)
 
 -- a line and its line feed
 feed-ended : (line rest : List ℕ) → lacks lineFeed line ≡ true → feedLines (line ++ (lineFeed ∷ rest)) ≡ line ∷ feedLines rest
@@ -71,12 +92,20 @@ csv-alone (b ∷ d ∷ bs) free some =
     let other = first-other carriageReturn b (d ∷ bs) free in
     simp (other .0, csv-alone (d ∷ bs) (other .1) (omega arith))
 
--- lines ended by a line feed
+-- Lines ended by a line feed.
 pub feed-lines : (closed : Bool) (all : List (List ℕ)) → allLack lineFeed all ≡ true → (closed ≡ false → 1 ≤ length (lastLine all)) → feedLines (joined (lineFeed ∷ []) closed all) ≡ all
 unfolding feedLines
-feed-lines closed all free last = joined-lines feedLines (lineFeed ∷ []) lineFeed refl feed-ended feed-alone closed all free last
+feed-lines = joined-lines feedLines (lineFeed ∷ []) lineFeed refl feed-ended feed-alone
 
--- lines ended by a carriage return and a line feed
+pub feed-rows : (closed : Bool) (first : List ℕ) → Plain lineFeed first → {A : Type 0} (line : A → List ℕ) → ((a : A) → Plain lineFeed (line a)) → (all : List A) → feedLines (joined (lineFeed ∷ []) closed (first ∷ map line all)) ≡ first ∷ map line all
+unfolding feedLines
+feed-rows = joined-rows feedLines (lineFeed ∷ []) lineFeed refl feed-ended feed-alone
+
+-- Lines ended by a carriage return and a line feed.
 pub csv-lines : (closed : Bool) (all : List (List ℕ)) → allLack carriageReturn all ≡ true → (closed ≡ false → 1 ≤ length (lastLine all)) → csvLines (joined lineEnd closed all) ≡ all
 unfolding csvLines
-csv-lines closed all free last = joined-lines csvLines lineEnd carriageReturn refl csv-ended csv-alone closed all free last
+csv-lines = joined-lines csvLines lineEnd carriageReturn refl csv-ended csv-alone
+
+pub csv-rows : (closed : Bool) (first : List ℕ) → Plain carriageReturn first → {A : Type 0} (line : A → List ℕ) → ((a : A) → Plain carriageReturn (line a)) → (all : List A) → csvLines (joined lineEnd closed (first ∷ map line all)) ≡ first ∷ map line all
+unfolding csvLines
+csv-rows = joined-rows csvLines lineEnd carriageReturn refl csv-ended csv-alone
