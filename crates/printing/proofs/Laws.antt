@@ -1,6 +1,7 @@
 -- Laws of digits, of the sizes of lines, of bytes that are put one behind the other, and of texts that are read back.
 pub mod Chains
 pub mod Digits
+pub mod EventsRead
 pub mod Lacking
 pub mod Reading
 pub mod Rows
