@@ -3,6 +3,7 @@ pub mod Chains
 pub mod Digits
 pub mod EventsRead
 pub mod Lacking
+pub mod NetworkRead
 pub mod Reading
 pub mod Rows
 pub mod Sizes

@@ -62,9 +62,9 @@ module _ (net : Network) (is : IsNetwork net) (all : List Row) (are : AreRows ne
       let small-offset : r .offset ≤ maxNumber = omega (arith, is .length-to (pred (r .edge)) (omega arith)) in
       ap (takeNumbers net before) (read-three comma (omega arith) (r .set) small-set (r .edge) small-edge (r .offset) small-offset)
       ∙ holds badSet (le-leb (r .set) maxSet (good .set-to))
-          (holds noEdge (true-between 1 (edges net) (r .edge) from to)
-          (holds beyondEdge (le-leb (r .offset) (size net (pred (r .edge))) on)
-          (holds tooManyEvents (lt-ltb (length before) maxEvents (omega (arith, are .few))) refl)))
+      (holds noEdge (true-between 1 (edges net) (r .edge) from to)
+      (holds beyondEdge (le-leb (r .offset) (size net (pred (r .edge))) on)
+      (holds tooManyEvents (lt-ltb (length before) maxEvents (omega (arith, are .few))) refl)))
 
   all-taken : readLines (eventStep net) 1 before-header (eventHeader ∷ map rowLine all) ≡ read (rows all)
   unfolding eventStep require sameBytes

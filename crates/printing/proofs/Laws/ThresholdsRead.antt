@@ -50,7 +50,7 @@ module _ (ts : List ℕ) (good : ThresholdsAccepted ts) (small : (k : ℕ) → k
       let fits : t ≤ maxNumber = rw here at (small (length before) (omega arith)) in
       ap (takeNumber before) (read-one comma (omega arith) t fits)
       ∙ holds badThresholds (lt-ltb (length before) maxThresholds (omega (arith, good .few)))
-          (holds notRising (above-last before t rest (rw e at (good .rising))) refl)
+      (holds notRising (above-last before t rest (rw e at (good .rising))) refl)
 
   all-taken : readLines thresholdStep 1 before-header (thresholdHeader ∷ map digits ts) ≡ read (values ts)
   unfolding thresholdStep require sameBytes
