@@ -5,6 +5,7 @@ pub mod EventsRead
 pub mod Lacking
 pub mod NetworkRead
 pub mod Reading
+pub mod Remarks
 pub mod Rows
 pub mod Sizes
 pub mod TextFields

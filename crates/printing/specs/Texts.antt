@@ -1,8 +1,10 @@
 -- The texts that say given lists, byte by byte (01, Texts): a number is its decimal digits, and every line has its end, which the last one
 -- may lack.
-use mathlib.Core.Bool.{Bool, cond}
+use mathlib.Core.Bool.{Bool, true, cond, _&&_, not}
 use mathlib.Core.List.{List, [], _∷_, _++_, map}
+use mathlib.Core.Path.{_≡_}
 use Prim.Native.Nat.{ℕ, _*_}
+use lib.Dec.{eqb}
 use Rattle.model.specs.Network.{Network, edges}
 use Rattle.text.specs.EventText.{Row, comma, eventHeader}
 use Rattle.text.specs.Lines.{lineFeed}
@@ -20,7 +22,7 @@ parted sep (f ∷ g ∷ more) = f ++ (sep ∷ parted sep (g ∷ more))
 unfoldable pub numbered : ℕ → List ℕ → List ℕ
 numbered sep ns = parted sep (map digits ns)
 
--- lines with a line end behind each, behind the last one only where it is closed
+-- lines with a line end behind each; closed says whether the last one has it too
 unfoldable pub joined : List ℕ → Bool → List (List ℕ) → List ℕ
 joined end closed [] = []
 joined end closed (line ∷ []) = line ++ cond closed end []
@@ -46,6 +48,7 @@ problemLine nodes arcs = 112 ∷ 32 ∷ 115 ∷ 112 ∷ 32 ∷ numbered space (n
 unfoldable pub arcLine : ArcRead → List ℕ
 arcLine a = 97 ∷ 32 ∷ numbered space (a .from ∷ a .to ∷ a .weight ∷ [])
 
+-- an arc, from its three numbers
 abbrev pub arc : ℕ → ℕ → ℕ → ArcRead
 arc from to weight = record { from = from; to = to; weight = weight }
 
@@ -56,9 +59,30 @@ arcsOf (u ∷ us) [] ws = []
 arcsOf (u ∷ us) (v ∷ vs) [] = []
 arcsOf (u ∷ us) (v ∷ vs) (w ∷ ws) = arc u v w ∷ arc v u w ∷ arcsOf us vs ws
 
+-- those of a network
 unfoldable pub networkArcs : Network → List ArcRead
 networkArcs net = arcsOf (net .firsts) (net .seconds) (net .lengths)
 
--- a network: the `p` line, then its arcs
+-- a network's lines: the `p` line, then its arcs
+unfoldable pub networkTextLines : Network → List (List ℕ)
+networkTextLines net = problemLine (net .nodes) (2 * edges net) ∷ map arcLine (networkArcs net)
+
+-- a network: these lines, each ended by a line feed
 unfoldable pub networkText : Bool → Network → List ℕ
-networkText closed net = joined (lineFeed ∷ []) closed (problemLine (net .nodes) (2 * edges net) ∷ map arcLine (networkArcs net))
+networkText closed net = joined (lineFeed ∷ []) closed (networkTextLines net)
+
+-- a byte is none of a line's
+unfoldable pub lacks : ℕ → List ℕ → Bool
+lacks x [] = true
+lacks x (b ∷ bs) = not (eqb b x) && lacks x bs
+
+-- a remark: `c` alone, or `c` and a space and anything but a line feed
+pub data IsRemark : List ℕ → Type 0 where
+  bare : IsRemark (99 ∷ [])
+  saying : {bytes : List ℕ} → lacks lineFeed bytes ≡ true → IsRemark (99 ∷ 32 ∷ bytes)
+
+-- the second lines are the first ones with remarks put in anywhere
+pub data WithRemarks : List (List ℕ) → List (List ℕ) → Type 0 where
+  no-more : WithRemarks [] []
+  kept : {line : List ℕ} {lines all : List (List ℕ)} → WithRemarks lines all → WithRemarks (line ∷ lines) (line ∷ all)
+  put-in : {remark : List ℕ} {lines all : List (List ℕ)} → IsRemark remark → WithRemarks lines all → WithRemarks lines (remark ∷ all)

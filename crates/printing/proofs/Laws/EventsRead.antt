@@ -1,12 +1,12 @@
 -- The text of reports within the limits is accepted, and they are read back from it.
-use mathlib.Core.Bool.{Bool, true}
+use mathlib.Core.Bool.{Bool}
 use mathlib.Core.List.{List, [], _∷_, _++_, map, List·Memᴰ, List·Memᴰ·head, List·Memᴰ·tail, Memᴰ·append-right}
 use mathlib.Core.Path.{_≡_, refl, sym, ap, _∙_}
-use Prim.Native.Nat.{ℕ, zero, suc, pred, _+_, _≤_, _<_}
+use Prim.Native.Nat.{ℕ, suc, pred, _+_, _≤_, _<_}
 use native.Mathlib.Omega.{arith}
 use borrow.Author.Tests.{le-leb, lt-ltb}
 use lib.ListN.{length, getD, length-append, length-map}
-use Rattle.model.proofs.Laws.Checks.{IsNetwork, network-accepted, network-accepts, AreEvents, SetsAccepted, sets-accepted}
+use Rattle.model.proofs.Laws.Checks.{IsNetwork, network-accepted, network-accepts, SetsAccepted, sets-accepted}
 use Rattle.model.proofs.Laws.Refusal.{true-between}
 use Rattle.model.specs.Checks.{networkCheck, setsOverNetworkCheck}
 use Rattle.model.specs.Events.{event, IsEvent}
@@ -14,15 +14,15 @@ use Rattle.model.specs.Limits.{maxSet, maxEvents}
 use Rattle.model.specs.Network.{Network, edges, size}
 use Rattle.model.specs.Refusal.{badSet, noEdge, beyondEdge, tooManyEvents}
 use Rattle.model.specs.declared.check.Check.the-variants.{Accepted}
-use Rattle.text.specs.EventText.{Row, EventState, before-header, rows, comma, eventHeader, takeRow, takeNumbers, eventStep, eventEnd, eventLines}
+use Rattle.text.specs.EventText.{Row, before-header, rows, comma, eventHeader, takeRow, takeNumbers, eventStep, eventEnd, eventLines}
 use Rattle.text.specs.Fields.{sameBytes}
 use Rattle.text.specs.Lines.{carriageReturn, csvLines}
 use Rattle.text.specs.Numbers.{maxNumber}
 use Rattle.text.specs.Reading.{taken, read, readLines, require}
-use Rattle.printing.specs.Texts.{rowLine, eventText}
-use Rattle.printing.proofs.Laws.Lacking.{lacks, numbered-lack, numbered-some}
+use Rattle.printing.specs.Texts.{rowLine, eventText, lacks}
+use Rattle.printing.proofs.Laws.Lacking.{numbered-lack, numbered-some}
 use Rattle.printing.proofs.Laws.TextFields.{read-three}
-use Rattle.printing.proofs.Laws.TextLines.{Plain, csv-rows}
+use Rattle.printing.proofs.Laws.TextLines.{Plain, one-more, map-plain, csv-plain}
 use Rattle.printing.proofs.Laws.TextRows.{holds, goes-on, rows-read}
 
 -- what 12 to 14 leave of a row
@@ -35,11 +35,12 @@ pub record AreRows (net : Network) (all : List Row) : Type 0 where
   pub each : (r : Row) → List·Memᴰ r all → IsRow net r
   pub few : length all ≤ maxEvents
 
--- the header, and a row's line
+-- the header is read back
 header-plain : Plain carriageReturn eventHeader
 unfolding lacks
 header-plain = record { free = refl; some = omega arith }
 
+-- and a row's line
 row-plain : (r : Row) → Plain carriageReturn (rowLine r)
 unfolding rowLine
 row-plain r = record {
@@ -66,6 +67,7 @@ module _ (net : Network) (is : IsNetwork net) (all : List Row) (are : AreRows ne
       (holds beyondEdge (le-leb (r .offset) (size net (pred (r .edge))) on)
       (holds tooManyEvents (lt-ltb (length before) maxEvents (omega (arith, are .few))) refl)))
 
+  -- the header and all rows
   all-taken : readLines (eventStep net) 1 before-header (eventHeader ∷ map rowLine all) ≡ read (rows all)
   unfolding eventStep require sameBytes
   all-taken =
@@ -76,7 +78,7 @@ module _ (net : Network) (is : IsNetwork net) (all : List Row) (are : AreRows ne
 pub events-read : (closed : Bool) (net : Network) (all : List Row) → networkCheck net ≡ Accepted → AreRows net all → eventLines net (csvLines (eventText closed all)) ≡ read all
 unfolding eventText eventLines eventEnd
 events-read closed net all accepted are =
-    rw (csv-rows closed eventHeader header-plain rowLine row-plain all, all-taken net (network-accepted net accepted) all are)
+    rw (csv-plain closed (one-more header-plain (map-plain carriageReturn rowLine row-plain all)), all-taken net (network-accepted net accepted) all are)
 
 -- the place of a row, and what stands there in a list made one from each row
 record Place (r : Row) (all : List Row) : Type 0 where
@@ -84,6 +86,7 @@ record Place (r : Row) (all : List Row) : Type 0 where
   inside : at < length all
   entry : (f : Row → ℕ) → getD (map f all) at 0 ≡ f r
 
+-- each row of a list has one
 place-of : {r : Row} {all : List Row} → List·Memᴰ r all → Place r all
 place-of (List·Memᴰ·head e) = record { at = 0; inside = omega arith; entry = λ f. ap f (sym e) }
 place-of (List·Memᴰ·tail m) =

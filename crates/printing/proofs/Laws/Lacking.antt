@@ -10,15 +10,10 @@ use lib.ListN.{length, length-append}
 use Rattle.model.proofs.Laws.Refusal.{both-true, between-true}
 use Rattle.text.specs.Numbers.{isDigit, allDigits}
 use Rattle.printing.specs.Bytes.{digits}
-use Rattle.printing.specs.Texts.{parted, numbered}
+use Rattle.printing.specs.Texts.{parted, numbered, lacks}
 use Rattle.printing.proofs.Laws.Reading.{all-digits, some-digits}
 
--- the byte x is none of a line's
-unfoldable pub lacks : ℕ → List ℕ → Bool
-lacks x [] = true
-lacks x (b ∷ bs) = not (eqb b x) && lacks x bs
-
--- and none of any line's
+-- the byte x is none of any line's
 unfoldable pub allLack : ℕ → List (List ℕ) → Bool
 allLack x [] = true
 allLack x (line ∷ more) = lacks x line && allLack x more
@@ -51,12 +46,14 @@ unfolding allLack
 map-lack x line each [] = refl
 map-lack x line each (a ∷ more) = simp (each a, map-lack x line each more)
 
--- So do numbers, alone and with a separator between them.
+-- Numbers lack a byte below the digits.
 module _ (x : ℕ) (below : x < 48) where
+  -- one alone
   pub digits-lack : (n : ℕ) → lacks x (digits n) ≡ true
   unfolding digits
   digits-lack n = lacks-digits x below (digits n) (all-digits 20 n)
 
+  -- and some with another byte between them
   pub numbered-lack : (sep : ℕ) → eqb sep x ≡ false → (ns : List ℕ) → lacks x (numbered sep ns) ≡ true
   unfolding numbered parted lacks
   numbered-lack sep other [] = refl
@@ -64,11 +61,12 @@ module _ (x : ℕ) (below : x < 48) where
   numbered-lack sep other (n ∷ m ∷ more) =
       lacks-append x (digits n) (sep ∷ parted sep (map digits (m ∷ more))) ∙ simp (digits-lack n, other, numbered-lack sep other (m ∷ more))
 
--- numbers with a separator between them, one at least, hold a byte
+-- a number holds a byte
 pub digits-some : (n : ℕ) → 1 ≤ length (digits n)
 unfolding digits
 digits-some n = some-digits 19 n
 
+-- and so do some with a separator between them
 pub numbered-some : (sep n : ℕ) (more : List ℕ) → 1 ≤ length (numbered sep (n ∷ more))
 unfolding numbered parted
 numbered-some sep n [] = digits-some n

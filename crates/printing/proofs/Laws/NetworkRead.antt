@@ -1,8 +1,8 @@
 -- The text of a network within the limits is accepted, and the network is read back from it.
-use mathlib.Core.Bool.{Bool, true, _&&_, _||_, not, or-true}
+use mathlib.Core.Bool.{Bool, true, _||_, or-true}
 use mathlib.Core.List.{List, [], _∷_, _++_, map, append-nil}
 use mathlib.Core.Path.{_≡_, refl, sym, ap, _∙_}
-use Prim.Native.Nat.{ℕ, zero, suc, _+_, _*_, _%_, _≤_, _<_}
+use Prim.Native.Nat.{ℕ, suc, _+_, _*_, _%_, _≤_, _<_}
 use native.Mathlib.Omega.{arith}
 use borrow.Author.Tests.{eq-eqb, ne-eqb, lt-ltb}
 use lib.Dec.{eqb}
@@ -13,23 +13,24 @@ use Rattle.model.proofs.Laws.Refusal.{true-between}
 use Rattle.model.specs.Checks.{networkCheck}
 use Rattle.model.specs.Limits.{maxNodes, maxEdges, maxLength}
 use Rattle.model.specs.Network.{Network, network, edges, first, second, size}
-use Rattle.model.specs.Refusal.{isBetween, badSizes, badNode, selfJoined, badLength}
+use Rattle.model.specs.Refusal.{badSizes, badNode, selfJoined, badLength}
 use Rattle.model.specs.declared.check.Check.the-variants.{Accepted}
 use Rattle.text.specs.Lines.{lineFeed, feedLines}
-use Rattle.text.specs.NetworkText.{ArcRead, NetworkState, before-problem, reading, space, networkLine, turnsLast, takeArc, takeProblem, networkStep, networkEnd, ended, networkLines, everyOther, networkOfArcs}
-use Rattle.text.specs.Numbers.{maxNumber}
-use Rattle.text.specs.Reading.{Step, taken, read, readLines, notTurned, wrongArcs}
-use Rattle.printing.specs.Texts.{arc, arcsOf, networkArcs, problemLine, arcLine, networkText}
-use Rattle.printing.proofs.Laws.Lacking.{lacks, numbered-lack}
+use Rattle.text.specs.NetworkText.{ArcRead, before-problem, reading, space, turnsLast, takeArc, takeProblem, networkStep, networkEnd, ended, networkLines, everyOther, networkOfArcs}
+use Rattle.text.specs.Reading.{taken, read, readLines, notTurned, wrongArcs}
+use Rattle.printing.specs.Texts.{arc, arcsOf, networkArcs, problemLine, arcLine, networkTextLines, networkText, joined, WithRemarks, lacks}
+use Rattle.printing.proofs.Laws.Lacking.{numbered-lack}
+use Rattle.printing.proofs.Laws.Remarks.{lineStep, remarks-plain, no-remarks, remarks-passed}
 use Rattle.printing.proofs.Laws.TextFields.{problem-line, arc-line}
-use Rattle.printing.proofs.Laws.TextLines.{Plain, feed-rows}
+use Rattle.printing.proofs.Laws.TextLines.{Plain, AllPlain, one-more, map-plain, feed-plain}
 use Rattle.printing.proofs.Laws.TextRows.{holds, goes-on}
 
--- the two kinds of line
+-- a `p` line is read back
 problem-plain : (nodes arcs : ℕ) → Plain lineFeed (problemLine nodes arcs)
 unfolding problemLine lacks
 problem-plain nodes arcs = record { free = numbered-lack lineFeed (omega arith) space refl (nodes ∷ arcs ∷ []); some = omega arith }
 
+-- and an arc line
 arc-plain : (a : ArcRead) → Plain lineFeed (arcLine a)
 unfolding arcLine lacks
 arc-plain a = record { free = numbered-lack lineFeed (omega arith) space refl (a .from ∷ a .to ∷ a .weight ∷ []); some = omega arith }
@@ -62,9 +63,6 @@ unfolding turnsLast
 turns-edge [] u v w = simp (eq-eqb u u refl, eq-eqb v v refl, eq-eqb w w refl)
 turns-edge (a ∷ []) u v w = simp (eq-eqb u u refl, eq-eqb v v refl, eq-eqb w w refl)
 turns-edge (a ∷ a′ ∷ more) u v w = turns-edge (a′ ∷ more) u v w
-
-abbrev lineStep : NetworkState → List ℕ → Step NetworkState
-lineStep s line = networkStep s (networkLine line)
 
 -- a network's size is taken
 problem-taken : (nodes edges : ℕ) → 1 ≤ nodes → nodes ≤ maxNodes → 1 ≤ edges → edges ≤ maxEdges → lineStep before-problem (problemLine nodes (2 * edges)) ≡ taken (reading nodes (2 * edges) [])
@@ -144,25 +142,39 @@ edge-at net is i h =
       length-to = is .length-to i h;
     }
 
+-- The lines of a network within its limits.
 module _ (net : Network) (is : IsNetwork net) where
-  all-taken : readLines lineStep 1 before-problem (problemLine (net .nodes) (2 * edges net) ∷ map arcLine (networkArcs net)) ≡ read (reading (net .nodes) (2 * edges net) (networkArcs net))
-  unfolding networkArcs
+  -- each is read back
+  lines-plain : AllPlain lineFeed (networkTextLines net)
+  unfolding networkTextLines
+  lines-plain = one-more (problem-plain (net .nodes) (2 * edges net)) (map-plain lineFeed arcLine arc-plain (networkArcs net))
+
+  -- each is taken
+  all-taken : readLines lineStep 1 before-problem (networkTextLines net) ≡ read (reading (net .nodes) (2 * edges net) (networkArcs net))
+  unfolding networkTextLines networkArcs
   all-taken =
       goes-on lineStep 1 (problemLine (net .nodes) (2 * edges net)) (map arcLine (networkArcs net))
       (problem-taken (net .nodes) (edges net) (is .nodes-from) (is .nodes-to) (is .edges-from) (is .edges-to))
       ∙ arcs-taken (net .nodes) (2 * edges net) (is .nodes-to) (net .firsts) (net .seconds) (net .lengths) [] 2 (edge-at net is) refl (omega arith)
 
+  -- and no arc is missing
   all-there : length (networkArcs net) ≡ 2 * edges net
   unfolding networkArcs
   all-there = arcs-length (net .firsts) (net .seconds) (net .lengths) (is .firsts-length) (is .seconds-length)
 
--- A network that passes its check: its text is accepted, with the last line's end or without it, and its arcs are read.
-pub network-read : (closed : Bool) (net : Network) → networkCheck net ≡ Accepted → networkLines (feedLines (networkText closed net)) ≡ read (reading (net .nodes) (2 * edges net) (networkArcs net))
-unfolding networkText networkLines ended networkEnd
-network-read closed net accepted =
+-- A network that passes its check: its lines with any remarks among them are accepted, with the last line's end or without it, and its
+-- arcs are read.
+pub remarks-read : (closed : Bool) (net : Network) (all : List (List ℕ)) → networkCheck net ≡ Accepted → WithRemarks (networkTextLines net) all → networkLines (feedLines (joined (lineFeed ∷ []) closed all)) ≡ read (reading (net .nodes) (2 * edges net) (networkArcs net))
+unfolding networkLines ended networkEnd
+remarks-read closed net all accepted among =
     let is = network-accepted net accepted in
-    rw (feed-rows closed (problemLine (net .nodes) (2 * edges net)) (problem-plain (net .nodes) (2 * edges net)) arcLine arc-plain (networkArcs net), all-taken net is)
+    rw (feed-plain closed (remarks-plain among (lines-plain net is)), remarks-passed among 1 1 before-problem (all-taken net is))
     (rw (eq-eqb (length (networkArcs net)) (2 * edges net) (all-there net is)))
+
+-- So its text is, which has no remarks.
+pub network-read : (closed : Bool) (net : Network) → networkCheck net ≡ Accepted → networkLines (feedLines (networkText closed net)) ≡ read (reading (net .nodes) (2 * edges net) (networkArcs net))
+unfolding networkText
+network-read closed net accepted = remarks-read closed net (networkTextLines net) accepted (no-remarks (networkTextLines net))
 
 -- The network of those arcs is the one that the text says.
 pub network-back : (net : Network) → networkCheck net ≡ Accepted → networkOfArcs (net .nodes) (networkArcs net) ≡ net

@@ -1,21 +1,20 @@
 -- The fields of a line that was made of fields are those fields, and numbers are read back from it.
-use mathlib.Core.Bool.{true, false}
+use mathlib.Core.Bool.{true}
 use mathlib.Core.List.{List, [], _∷_, _++_, map}
-use mathlib.Core.Path.{_≡_, refl, sym, ap, _∙_}
+use mathlib.Core.Path.{_≡_, refl, ap, _∙_}
 use Prim.Native.Nat.{ℕ, _≤_, _<_}
 use native.Mathlib.Omega.{arith}
 use borrow.Author.Tests.{eq-eqb}
-use lib.Dec.{eqb}
 use Rattle.model.proofs.Laws.Refusal.{both-true}
 use Rattle.text.specs.Fields.{fields, sameBytes, beginsWith, numbersOf, ofOne, ofTwo, ofThree}
 use Rattle.text.specs.Lines.{inFront}
 use Rattle.text.specs.NetworkText.{ArcRead, networkLine, problemOf, arcOf, space}
-use Rattle.text.specs.Numbers.{maxNumber, numberOf}
+use Rattle.text.specs.Numbers.{maxNumber}
 use Rattle.text.specs.declared.fields.Numbers.the-variants.{One, Two, Three}
 use Rattle.text.specs.declared.network_line.NetworkLine.the-variants.{Problem, Arc}
 use Rattle.printing.specs.Bytes.{digits}
-use Rattle.printing.specs.Texts.{parted, numbered, problemLine, arcLine}
-use Rattle.printing.proofs.Laws.Lacking.{lacks, allLack, digits-lack, map-lack, first-other}
+use Rattle.printing.specs.Texts.{parted, numbered, problemLine, arcLine, lacks}
+use Rattle.printing.proofs.Laws.Lacking.{allLack, digits-lack, map-lack, first-other}
 use Rattle.printing.proofs.Laws.Reading.{read-back}
 
 -- a field and the separator behind it
@@ -45,6 +44,7 @@ fields-parted sep first (next ∷ more) free =
 
 -- Numbers with a separator between them, a byte below the digits.
 module _ (sep : ℕ) (below : sep < 48) where
+  -- the fields are the numbers' digits
   pub fields-numbered : (n : ℕ) (more : List ℕ) → fields sep (numbered sep (n ∷ more)) ≡ map digits (n ∷ more)
   unfolding numbered
   fields-numbered n more = fields-parted sep (digits n) (map digits more) (map-lack sep digits (digits-lack sep below) (n ∷ more))

@@ -1,5 +1,5 @@
 -- The lines of a text that was joined from lines are those lines.
-use mathlib.Core.Bool.{Bool, true, false, cond, _&&_, not}
+use mathlib.Core.Bool.{Bool, true, false}
 use mathlib.Core.List.{List, [], _∷_, _++_, map, append-nil}
 use mathlib.Core.Path.{_≡_, refl, sym, ap, _∙_}
 use Prim.Native.Nat.{ℕ, _≤_}
@@ -8,8 +8,8 @@ use lib.ListN.{length}
 use Rattle.model.proofs.Laws.Refusal.{both-true}
 use Rattle.text.specs.Lines.{lineFeed, carriageReturn, inFront, feedLines, csvLines}
 use Rattle.printing.specs.Bytes.{lineEnd}
-use Rattle.printing.specs.Texts.{joined}
-use Rattle.printing.proofs.Laws.Lacking.{lacks, allLack, first-other, map-lack}
+use Rattle.printing.specs.Texts.{joined, lacks}
+use Rattle.printing.proofs.Laws.Lacking.{allLack, first-other}
 
 -- the last line of a text; of no lines an empty one
 unfoldable pub lastLine : List (List ℕ) → List ℕ
@@ -22,16 +22,27 @@ pub record Plain (mark : ℕ) (line : List ℕ) : Type 0 where
   pub free : lacks mark line ≡ true
   pub some : 1 ≤ length line
 
--- Lines made one from each of a list, behind a first one.
-module _ {A : Type 0} (mark : ℕ) (line : A → List ℕ) (each : (a : A) → Plain mark (line a)) where
-  plain-free : (first : List ℕ) → Plain mark first → (all : List A) → allLack mark (first ∷ map line all) ≡ true
-  unfolding allLack
-  plain-free first plain all = simp (plain .free, map-lack mark line (λ a. each a .free) all)
+-- lines that all are
+pub data AllPlain (mark : ℕ) : List (List ℕ) → Type 0 where
+  no-line : AllPlain mark []
+  one-more : {line : List ℕ} {more : List (List ℕ)} → Plain mark line → AllPlain mark more → AllPlain mark (line ∷ more)
 
-  plain-last : (first : List ℕ) → Plain mark first → (all : List A) → 1 ≤ length (lastLine (first ∷ map line all))
-  unfolding lastLine
-  plain-last first plain [] = plain .some
-  plain-last first plain (a ∷ more) = plain-last (line a) (each a) more
+-- lines made one from each of a list
+pub map-plain : {A : Type 0} (mark : ℕ) (line : A → List ℕ) → ((a : A) → Plain mark (line a)) → (all : List A) → AllPlain mark (map line all)
+map-plain mark line each [] = no-line
+map-plain mark line each (a ∷ more) = one-more (each a) (map-plain mark line each more)
+
+-- they lack that byte
+plain-free : {mark : ℕ} {all : List (List ℕ)} → AllPlain mark all → allLack mark all ≡ true
+unfolding allLack
+plain-free no-line = refl
+plain-free (one-more p ps) = simp (p .free, plain-free ps)
+
+-- and the last of some is not empty
+plain-last : {mark : ℕ} (line : List ℕ) (more : List (List ℕ)) → Plain mark line → AllPlain mark more → 1 ≤ length (lastLine (line ∷ more))
+unfolding lastLine
+plain-last line [] p ps = p .some
+plain-last line (next ∷ more) p (one-more q ps) = plain-last next more q ps
 
 -- Lines of one kind: `mark` is the first byte of their end, which no line holds.
 module _
@@ -53,10 +64,12 @@ module _
       ended line (joined end closed (next ∷ more)) (both .0)
       ∙ ap (λ (rest : List (List ℕ)). line ∷ rest) (joined-lines closed (next ∷ more) (both .1) last)
 
-  -- so are a first line and those of a list
-  joined-rows : (closed : Bool) (first : List ℕ) → Plain mark first → {A : Type 0} (line : A → List ℕ) → ((a : A) → Plain mark (line a)) → (all : List A) → lines (joined end closed (first ∷ map line all)) ≡ first ∷ map line all
-  joined-rows closed first plain line each all =
-      joined-lines closed (first ∷ map line all) (plain-free mark line each first plain all) (λ _. plain-last mark line each first plain all)
+  -- so plain lines are, with the last end and without it
+  joined-plain : (closed : Bool) {all : List (List ℕ)} → AllPlain mark all → lines (joined end closed all) ≡ all
+  unfolding joined
+  joined-plain closed no-line = none
+  joined-plain closed (one-more {line = line} {more = more} p ps) =
+      joined-lines closed (line ∷ more) (plain-free (one-more p ps)) (λ _. plain-last line more p ps)
 
 -- a line and its line feed
 feed-ended : (line rest : List ℕ) → lacks lineFeed line ≡ true → feedLines (line ++ (lineFeed ∷ rest)) ≡ line ∷ feedLines rest
@@ -66,7 +79,7 @@ feed-ended (b ∷ bs) rest free =
     let other = first-other lineFeed b bs free in
     simp (other .0, feed-ended bs rest (other .1))
 
--- a line with none
+-- a line with no end
 feed-alone : (line : List ℕ) → lacks lineFeed line ≡ true → 1 ≤ length line → feedLines line ≡ line ∷ []
 unfolding feedLines inFront
 feed-alone [] free some = absurd (omega arith)
@@ -84,6 +97,7 @@ csv-ended (b ∷ d ∷ bs) rest free =
     let other = first-other carriageReturn b (d ∷ bs) free in
     simp (other .0, csv-ended (d ∷ bs) rest (other .1))
 
+-- a line with no end
 csv-alone : (line : List ℕ) → lacks carriageReturn line ≡ true → 1 ≤ length line → csvLines line ≡ line ∷ []
 unfolding csvLines inFront
 csv-alone [] free some = absurd (omega arith)
@@ -92,20 +106,22 @@ csv-alone (b ∷ d ∷ bs) free some =
     let other = first-other carriageReturn b (d ∷ bs) free in
     simp (other .0, csv-alone (d ∷ bs) (other .1) (omega arith))
 
--- Lines ended by a line feed.
+-- lines ended by a line feed are read back
 pub feed-lines : (closed : Bool) (all : List (List ℕ)) → allLack lineFeed all ≡ true → (closed ≡ false → 1 ≤ length (lastLine all)) → feedLines (joined (lineFeed ∷ []) closed all) ≡ all
 unfolding feedLines
 feed-lines = joined-lines feedLines (lineFeed ∷ []) lineFeed refl feed-ended feed-alone
 
-pub feed-rows : (closed : Bool) (first : List ℕ) → Plain lineFeed first → {A : Type 0} (line : A → List ℕ) → ((a : A) → Plain lineFeed (line a)) → (all : List A) → feedLines (joined (lineFeed ∷ []) closed (first ∷ map line all)) ≡ first ∷ map line all
+-- the same of plain lines, which nothing more is asked of
+pub feed-plain : (closed : Bool) {all : List (List ℕ)} → AllPlain lineFeed all → feedLines (joined (lineFeed ∷ []) closed all) ≡ all
 unfolding feedLines
-feed-rows = joined-rows feedLines (lineFeed ∷ []) lineFeed refl feed-ended feed-alone
+feed-plain = joined-plain feedLines (lineFeed ∷ []) lineFeed refl feed-ended feed-alone
 
--- Lines ended by a carriage return and a line feed.
+-- so are lines ended by a carriage return and a line feed
 pub csv-lines : (closed : Bool) (all : List (List ℕ)) → allLack carriageReturn all ≡ true → (closed ≡ false → 1 ≤ length (lastLine all)) → csvLines (joined lineEnd closed all) ≡ all
 unfolding csvLines
 csv-lines = joined-lines csvLines lineEnd carriageReturn refl csv-ended csv-alone
 
-pub csv-rows : (closed : Bool) (first : List ℕ) → Plain carriageReturn first → {A : Type 0} (line : A → List ℕ) → ((a : A) → Plain carriageReturn (line a)) → (all : List A) → csvLines (joined lineEnd closed (first ∷ map line all)) ≡ first ∷ map line all
+-- the same of plain lines
+pub csv-plain : (closed : Bool) {all : List (List ℕ)} → AllPlain carriageReturn all → csvLines (joined lineEnd closed all) ≡ all
 unfolding csvLines
-csv-rows = joined-rows csvLines lineEnd carriageReturn refl csv-ended csv-alone
+csv-plain = joined-plain csvLines lineEnd carriageReturn refl csv-ended csv-alone

@@ -16,13 +16,13 @@ use Rattle.text.specs.EventText.{comma}
 use Rattle.text.specs.Fields.{sameBytes}
 use Rattle.text.specs.Lines.{carriageReturn, csvLines}
 use Rattle.text.specs.Numbers.{maxNumber}
-use Rattle.text.specs.Reading.{taken, read, readLines, require, next}
+use Rattle.text.specs.Reading.{taken, read, readLines, require}
 use Rattle.text.specs.ThresholdText.{thresholdHeader, values, before-header, aboveLast, takeThreshold, takeNumber, thresholdStep, thresholdEnd, thresholdLines}
 use Rattle.printing.specs.Bytes.{digits}
-use Rattle.printing.specs.Texts.{thresholdText}
-use Rattle.printing.proofs.Laws.Lacking.{lacks, digits-lack, digits-some}
+use Rattle.printing.specs.Texts.{thresholdText, lacks}
+use Rattle.printing.proofs.Laws.Lacking.{digits-lack, digits-some}
 use Rattle.printing.proofs.Laws.TextFields.{read-one}
-use Rattle.printing.proofs.Laws.TextLines.{Plain, csv-rows}
+use Rattle.printing.proofs.Laws.TextLines.{Plain, one-more, map-plain, csv-plain}
 use Rattle.printing.proofs.Laws.TextRows.{holds, goes-on, rows-read}
 
 -- in a list that rises an entry is above the last of those before it
@@ -32,11 +32,12 @@ above-last [] t rest rising = refl
 above-last (s ∷ []) t rest rising = lt-ltb s t (rising 0 (omega arith))
 above-last (s ∷ s′ ∷ more) t rest rising = above-last (s′ ∷ more) t rest (λ k h. rising (suc k) (omega arith))
 
--- the header, and a line with a number
+-- the header is read back
 header-plain : Plain carriageReturn thresholdHeader
 unfolding lacks
 header-plain = record { free = refl; some = omega arith }
 
+-- and a line with a number
 number-plain : (t : ℕ) → Plain carriageReturn (digits t)
 number-plain t = record { free = digits-lack carriageReturn (omega arith) t; some = digits-some t }
 
@@ -52,6 +53,7 @@ module _ (ts : List ℕ) (good : ThresholdsAccepted ts) (small : (k : ℕ) → k
       ∙ holds badThresholds (lt-ltb (length before) maxThresholds (omega (arith, good .few)))
       (holds notRising (above-last before t rest (rw e at (good .rising))) refl)
 
+  -- the header and all of them
   all-taken : readLines thresholdStep 1 before-header (thresholdHeader ∷ map digits ts) ≡ read (values ts)
   unfolding thresholdStep require sameBytes
   all-taken =
@@ -70,4 +72,4 @@ pub thresholds-read : (closed : Bool) (ts : List ℕ) → thresholdsCheck ts ≡
 unfolding thresholdText thresholdLines
 thresholds-read closed ts accepted small =
     let good = thresholds-accepted ts accepted in
-    rw (csv-rows closed thresholdHeader header-plain digits number-plain ts, all-taken ts good small) (some-read _ ts (good .some))
+    rw (csv-plain closed (one-more header-plain (map-plain carriageReturn digits number-plain ts)), all-taken ts good small) (some-read _ ts (good .some))
