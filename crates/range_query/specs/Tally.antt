@@ -12,25 +12,25 @@ use Rattle.range_query.specs.Metres.{meet}
 -- the places of the list of steps: the step of the greatest threshold, behind the steps the shift and the most steps of a cell, and
 -- behind them the cells
 abbrev pub lastStep : ℕ
-lastStep = 63
+lastStep = maxThresholds - 1
 
 abbrev pub shiftAt : ℕ
-shiftAt = 64
+shiftAt = maxThresholds
 
 abbrev pub mostAt : ℕ
-mostAt = 65
+mostAt = suc shiftAt
 
 abbrev pub firstCell : ℕ
-firstCell = 66
+firstCell = suc mostAt
 
 abbrev pub cellCount : ℕ
 cellCount = 8192
 
 abbrev pub lastCell : ℕ
-lastCell = 8191
+lastCell = cellCount - 1
 
 abbrev pub ladderLength : ℕ
-ladderLength = 8258
+ladderLength = firstCell + cellCount
 
 -- a cell is of 2 ^ 31 metres at most
 abbrev pub shiftEnd : ℕ

@@ -5,6 +5,7 @@ ghost use Prim.Native.Nat.{ℕ, suc, _+_, _/_, _^_, _≤_, _<_};
 ghost use lib.Dec.{leb, ltb};
 ghost use lib.ListN.{length, getD};
 ghost use Rattle.model.specs.Counting.{countBelow};
+ghost use Rattle.model.specs.Limits.{maxThresholds};
 ghost use Rattle.range_query.specs.Metres.{meet};
 ghost use Rattle.range_query.specs.Tally.{lastStep, shiftEnd, capOf, Steps, Bracket, Bucket, Between, Celled, CellsAsked, Named, Added, RowFits};
 use crate::metres::meet;
@@ -47,7 +48,7 @@ fn passed(step: u32, d: u64, half: usize) -> usize
 
 // Halves the steps among which the first that admits d is looked for.
 fn narrow(steps: &[u32; LADDER], d: u64, pos: usize, half: usize) -> usize
-    requires { ⌜ Steps (now steps) × (1 ≤ half) × (pos + half ≤ 64) ⌝ }
+    requires { ⌜ Steps (now steps) × (1 ≤ half) × (pos + half ≤ maxThresholds) ⌝ }
     ensures { λ r. ⌜ (r ≤ pos + half) × ((rest : ℕ) → half ≤ suc rest → Bracket (now (steps .entry)) d pos (half + rest) → Bracket (now (steps .entry)) d r rest) ⌝ }
 {
     pos + passed(steps[pos + half - 1], d, half)
