@@ -11,10 +11,10 @@ use Rattle.distance.specs.declared.answers.BoundedLength.{BoundedLength}
 use Rattle.distance.specs.declared.answers.BoundedLength.the-variants as bounded-answer
 use Rattle.perimeter.specs.declared.Counted.{Counted}
 use Rattle.perimeter.specs.declared.Counted.the-variants as count-answer
-use Rattle.readers.specs.declared.answers.ReadList.{ReadList}
-use Rattle.readers.specs.declared.answers.ReadList.the-variants as list-answer
-use Rattle.readers.specs.declared.answers.ReadNetwork.{ReadNetwork}
-use Rattle.readers.specs.declared.answers.ReadNetwork.the-variants as network-answer
+use Rattle.reading.specs.declared.answers.ReadList.{ReadList}
+use Rattle.reading.specs.declared.answers.ReadList.the-variants as list-answer
+use Rattle.network_reader.specs.declared.answers.ReadNetwork.{ReadNetwork}
+use Rattle.network_reader.specs.declared.answers.ReadNetwork.the-variants as network-answer
 use Rattle.exports.specs.Told.{Told, ToldWith, lengthVerdict, lengthCode, boundedVerdict, boundedCode, countVerdict, countOf, listVerdict, readOf, networkVerdict, edgesRead, nodesRead, ToldNetwork}
 use mathlib.Core.List.{List}
 use lib.ListN.{length}
@@ -25,7 +25,10 @@ use Rattle.distance.specs.Answers.{rowCheck, RowAnswered, tableCheck, TableAnsw
 use Rattle.prepare.specs.Counts.{countsCheck, CountsAnswered}
 use Rattle.count_augmentation.specs.Augmented.{augmentCheck, Augmented}
 use Rattle.neighbor_sharing.specs.Answers.{cursorsCheck, CursorsAnswered}
-use Rattle.readers.specs.Answers.{listAnswer, thresholdTextCheck, textThresholds, ThresholdsRead, eventTextCheck, textRows, EventsRead, networkAnswer, networkTextCheck, textNetwork, NetworkRead}
+use Rattle.reading.specs.Answers.{listAnswer}
+use Rattle.threshold_reader.specs.Answers.{thresholdTextCheck, textThresholds, ThresholdsRead}
+use Rattle.event_reader.specs.Answers.{eventTextCheck, textRows, EventsRead}
+use Rattle.network_reader.specs.Answers.{networkAnswer, networkTextCheck, textNetwork, NetworkRead}
 
 -- nothing is refused
 pub told-accepted : {v : Check} → v ≡ Accepted → Told v 0 0

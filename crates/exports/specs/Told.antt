@@ -10,10 +10,10 @@ use Rattle.distance.specs.declared.answers.BoundedLength.{BoundedLength}
 use Rattle.distance.specs.declared.answers.BoundedLength.the-variants as bounded-answer
 use Rattle.perimeter.specs.declared.Counted.{Counted}
 use Rattle.perimeter.specs.declared.Counted.the-variants as count-answer
-use Rattle.readers.specs.declared.answers.ReadList.{ReadList}
-use Rattle.readers.specs.declared.answers.ReadList.the-variants as list-answer
-use Rattle.readers.specs.declared.answers.ReadNetwork.{ReadNetwork}
-use Rattle.readers.specs.declared.answers.ReadNetwork.the-variants as network-answer
+use Rattle.reading.specs.declared.answers.ReadList.{ReadList}
+use Rattle.reading.specs.declared.answers.ReadList.the-variants as list-answer
+use Rattle.network_reader.specs.declared.answers.ReadNetwork.{ReadNetwork}
+use Rattle.network_reader.specs.declared.answers.ReadNetwork.the-variants as network-answer
 
 -- 0 and 0 where nothing is refused
 pub record Told (verdict : Check) (number place : ℕ) : Type 0 where

@@ -10,7 +10,10 @@ ghost use Rattle.model.specs.Network.{network};
 ghost use Rattle.layout.specs.Layout.{LaidOut};
 ghost use Rattle.distance.specs.Answers.{rowCheck, RowAnswered, tableCheck, TableAnswered, nodeAnswer, boundedNodeAnswer, locationAnswer};
 ghost use Rattle.perimeter.specs.Answers.{perimeterAnswer};
-ghost use Rattle.readers.specs.Answers.{listAnswer, thresholdTextCheck, textThresholds, ThresholdsRead, eventTextCheck, textRows, EventsRead, networkAnswer, networkTextCheck, textNetwork, NetworkRead};
+ghost use Rattle.reading.specs.Answers.{listAnswer};
+ghost use Rattle.threshold_reader.specs.Answers.{thresholdTextCheck, textThresholds, ThresholdsRead};
+ghost use Rattle.event_reader.specs.Answers.{eventTextCheck, textRows, EventsRead};
+ghost use Rattle.network_reader.specs.Answers.{networkAnswer, networkTextCheck, textNetwork, NetworkRead};
 ghost use Rattle.exports.specs.Told.{Told, ToldWith, lengthVerdict, lengthCode, boundedVerdict, boundedCode, countVerdict, countOf, listVerdict, readOf, ToldNetwork};
 
 // The events of one set, sorted in place by edge and then by offset.
@@ -164,7 +167,7 @@ pub extern "C" fn kc_read_thresholds(
     ensures { λ r. ⌜ ToldWith (listVerdict (listAnswer (thresholdTextCheck (now (text .entry)) (now (thresholds .entry))) (length (textThresholds (now (text .entry)))))) (readOf (listAnswer (thresholdTextCheck (now (text .entry)) (now (thresholds .entry))) (length (textThresholds (now (text .entry)))))) r (now (number .exit)) (now (place .exit)) ⌝ }
     ensures { λ r. ⌜ ThresholdsRead (now (text .entry)) (now (thresholds .entry)) (listAnswer (thresholdTextCheck (now (text .entry)) (now (thresholds .entry))) (length (textThresholds (now (text .entry))))) (now (thresholds .exit)) ⌝ }
 {
-    let answer = readers::read_thresholds(text, thresholds);
+    let answer = threshold_reader::read_thresholds(text, thresholds);
     told::tell_list(answer, number, place)
 }
 
@@ -185,7 +188,16 @@ pub extern "C" fn kc_read_events(
     ensures { λ r. ⌜ ToldWith (listVerdict (listAnswer (eventTextCheck (network nodes (now (firsts .entry)) (now (seconds .entry)) (now (lengths .entry))) (now (text .entry)) (now (sets .entry)) (now (edges .entry)) (now (offsets .entry))) (length (textRows (network nodes (now (firsts .entry)) (now (seconds .entry)) (now (lengths .entry))) (now (text .entry)))))) (readOf (listAnswer (eventTextCheck (network nodes (now (firsts .entry)) (now (seconds .entry)) (now (lengths .entry))) (now (text .entry)) (now (sets .entry)) (now (edges .entry)) (now (offsets .entry))) (length (textRows (network nodes (now (firsts .entry)) (now (seconds .entry)) (now (lengths .entry))) (now (text .entry)))))) r (now (number .exit)) (now (place .exit)) ⌝ }
     ensures { λ r. ⌜ EventsRead (network nodes (now (firsts .entry)) (now (seconds .entry)) (now (lengths .entry))) (now (text .entry)) (now (sets .entry)) (now (edges .entry)) (now (offsets .entry)) (listAnswer (eventTextCheck (network nodes (now (firsts .entry)) (now (seconds .entry)) (now (lengths .entry))) (now (text .entry)) (now (sets .entry)) (now (edges .entry)) (now (offsets .entry))) (length (textRows (network nodes (now (firsts .entry)) (now (seconds .entry)) (now (lengths .entry))) (now (text .entry))))) (now (sets .exit)) (now (edges .exit)) (now (offsets .exit)) ⌝ }
 {
-    let answer = readers::read_events(text, nodes, firsts, seconds, lengths, sets, edges, offsets);
+    let answer = event_reader::read_events(
+        text,
+        nodes,
+        firsts,
+        seconds,
+        lengths,
+        sets,
+        edges,
+        offsets,
+    );
     told::tell_list(answer, number, place)
 }
 
@@ -203,6 +215,6 @@ pub extern "C" fn kc_read_network(
     ensures { λ r. ⌜ ToldNetwork (networkAnswer (networkTextCheck (now (text .entry)) (now (firsts .entry)) (now (seconds .entry)) (now (lengths .entry))) (textNetwork (now (text .entry)))) r (now (nodes .exit)) (now (number .exit)) (now (place .exit)) ⌝ }
     ensures { λ r. ⌜ NetworkRead (now (text .entry)) (now (firsts .entry)) (now (seconds .entry)) (now (lengths .entry)) (networkAnswer (networkTextCheck (now (text .entry)) (now (firsts .entry)) (now (seconds .entry)) (now (lengths .entry))) (textNetwork (now (text .entry)))) (now (firsts .exit)) (now (seconds .exit)) (now (lengths .exit)) ⌝ }
 {
-    let answer = readers::read_network(text, firsts, seconds, lengths);
+    let answer = network_reader::read_network(text, firsts, seconds, lengths);
     told::tell_network(answer, nodes, number, place)
 }

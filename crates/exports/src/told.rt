@@ -3,9 +3,9 @@ ghost use Rattle.exports.specs.Told.{Told, ToldWith, lengthVerdict, leng
 use distance::BoundedLength;
 use distance::Length;
 use model::Check;
+use network_reader::ReadNetwork;
 use perimeter::Counted;
-use readers::ReadList;
-use readers::ReadNetwork;
+use reading::ReadList;
 
 pub fn tell(verdict: Check, number: &mut u32, place: &mut usize)
     ensures { λ _. ⌜ Told verdict (now (number .exit)) (now (place .exit)) ⌝ }

@@ -7,7 +7,7 @@ use libc::STDOUT_FILENO;
 use printing::Printed;
 
 // One byte more than a text may have, so that a longer one is refused and not cut off.
-const TEXT: usize = readers::MAX_BYTES + 1;
+const TEXT: usize = reading::MAX_BYTES + 1;
 
 // Fills the list from a file, and answers how many bytes were read. A file that cannot be opened counts as empty.
 fn read(path: &[u8], text: &mut [u8]) -> usize

@@ -15,7 +15,10 @@ use Rattle.printing.specs.Answers.{printedAnswer}
 use Rattle.printing.specs.Bytes.{header, lineEnd, row, refusalLine}
 use Rattle.printing.specs.declared.answers.Printed.{Printed}
 use Rattle.printing.specs.declared.answers.Printed.the-variants as printed
-use Rattle.readers.specs.Answers.{checkOf, textNetwork, textRows, textThresholds}
+use Rattle.reading.specs.Answers.{checkOf}
+use Rattle.network_reader.specs.Answers.{textNetwork}
+use Rattle.event_reader.specs.Answers.{textRows}
+use Rattle.threshold_reader.specs.Answers.{textThresholds}
 use Rattle.text.specs.EventText.{Row, eventLines}
 use Rattle.text.specs.Lines.{feedLines, csvLines}
 use Rattle.text.specs.NetworkText.{networkLines}

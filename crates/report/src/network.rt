@@ -1,10 +1,10 @@
 // The network text.
 ghost use Rattle.model.specs.Limits.{maxEdges};
-ghost use Rattle.readers.specs.Parallel.{Level};
+ghost use Rattle.reading.specs.Parallel.{Level};
 ghost use Rattle.report.specs.Report.{BytesPrinted, reportBytes};
 use crate::reports::print_over_network;
+use network_reader::ReadNetwork;
 use printing::Printed;
-use readers::ReadNetwork;
 
 // The report with room for the edges lent.
 pub(crate) fn read_with(
@@ -19,7 +19,7 @@ pub(crate) fn read_with(
     requires { ⌜ Level maxEdges (now firsts) (now seconds) (now lengths) ⌝ }
     ensures { λ r. ⌜ BytesPrinted (reportBytes (now (network .entry)) (now (reports .entry)) (now (thresholds .entry))) (now (out .entry)) r (now (out .exit)) ⌝ }
 {
-    match readers::read_network(network, firsts, seconds, lengths) {
+    match network_reader::read_network(network, firsts, seconds, lengths) {
         ReadNetwork::Refused(number, place) => {
             printing::print_refusal(b"network.gr", number, place, out)
         }

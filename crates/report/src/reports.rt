@@ -1,13 +1,13 @@
 // The report text over a network that passes every check.
 ghost use Rattle.model.specs.Limits.{maxEvents};
 ghost use Rattle.model.specs.Network.{network};
-ghost use Rattle.readers.specs.Parallel.{Level};
+ghost use Rattle.reading.specs.Parallel.{Level};
 ghost use Rattle.report.specs.Parts.{NetworkPasses};
 ghost use Rattle.report.specs.Report.{BytesPrinted, bytesOverNetwork};
 use crate::thresholds::print_over_reports;
 use model::EventSet;
 use printing::Printed;
-use readers::ReadList;
+use reading::ReadList;
 
 // What follows the network, with room for the reports lent.
 fn read_with(
@@ -25,7 +25,7 @@ fn read_with(
     requires { ⌜ NetworkPasses (network nodes (now firsts) (now seconds) (now lengths)) × Level maxEvents (now sets) (now edges) (now offsets) ⌝ }
     ensures { λ r. ⌜ BytesPrinted (bytesOverNetwork (network nodes (now (firsts .entry)) (now (seconds .entry)) (now (lengths .entry))) (now (reports .entry)) (now (thresholds .entry))) (now (out .entry)) r (now (out .exit)) ⌝ }
 {
-    match readers::read_events(
+    match event_reader::read_events(
         reports,
         nodes,
         firsts,

@@ -4,13 +4,13 @@ ghost use lib.ListN.{length};
 ghost use Rattle.model.specs.Events.{events};
 ghost use Rattle.model.specs.Limits.{maxThresholds};
 ghost use Rattle.model.specs.Network.{network};
-ghost use Rattle.readers.specs.Answers.{textThresholds};
+ghost use Rattle.threshold_reader.specs.Answers.{textThresholds};
 ghost use Rattle.report.specs.Parts.{ReportsPass};
 ghost use Rattle.report.specs.Report.{BytesPrinted, countsTable, lineOr, thresholdsFileCheck, thresholdsName};
 use crate::columns::print_columns;
 use model::Thresholds;
 use printing::Printed;
-use readers::ReadList;
+use reading::ReadList;
 
 // The table, with room for the thresholds lent.
 fn read_with(
@@ -28,7 +28,7 @@ fn read_with(
     requires { ⌜ ReportsPass (network nodes (now firsts) (now seconds) (now lengths)) (now sets) (now edges) (now offsets) × (length (now list) ≡ maxThresholds) ⌝ }
     ensures { λ r. ⌜ BytesPrinted (lineOr (thresholdsFileCheck (now (thresholds .entry))) thresholdsName (countsTable (network nodes (now (firsts .entry)) (now (seconds .entry)) (now (lengths .entry))) (now (sets .entry)) (events (now (edges .entry)) (now (offsets .entry))) (textThresholds (now (thresholds .entry))))) (now (out .entry)) r (now (out .exit)) ⌝ }
 {
-    match readers::read_thresholds(thresholds, list) {
+    match threshold_reader::read_thresholds(thresholds, list) {
         ReadList::Refused(number, place) => {
             printing::print_refusal(b"thresholds.csv", number, place, out)
         }

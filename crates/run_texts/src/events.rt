@@ -1,7 +1,7 @@
 // Report texts over a network of two edges of 5 and 4.
 use crate::show::list;
 use crate::show::read_list;
-use readers::read_events;
+use event_reader::read_events;
 
 fn read(name: &[u8], text: &[u8]) {
     let mut sets = [9, 9, 9];

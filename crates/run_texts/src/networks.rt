@@ -1,7 +1,7 @@
 // Network texts.
 use crate::show::list;
 use crate::show::read_network as show_network;
-use readers::read_network;
+use network_reader::read_network;
 
 fn read(name: &[u8], text: &[u8]) {
     let mut firsts = [9, 9, 9];

@@ -1,7 +1,7 @@
 // Printing what the readers answer.
 use libc::STDOUT_FILENO;
-use readers::ReadList;
-use readers::ReadNetwork;
+use network_reader::ReadNetwork;
+use reading::ReadList;
 
 pub(crate) fn word(text: &[u8]) {
     io::write_all(STDOUT_FILENO, text);

@@ -1,7 +1,7 @@
 // Threshold texts.
 use crate::show::list;
 use crate::show::read_list;
-use readers::read_thresholds;
+use threshold_reader::read_thresholds;
 
 fn read(name: &[u8], text: &[u8]) {
     let mut thresholds = [9, 9, 9, 9];

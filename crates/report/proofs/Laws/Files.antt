@@ -13,12 +13,15 @@ use Rattle.model.specs.declared.check.Check.the-variants.{Accepted, Refused}
 use Rattle.model.proofs.Laws.CheckParts.{room-accepts}
 use Rattle.model.proofs.Laws.Checks as model
 use Rattle.model.proofs.Laws.Refusal.{both-accept, or-else-next}
-use Rattle.readers.specs.Answers.{checkOf, textNetwork, textRows, textThresholds, networkTextCheck, eventTextCheck, thresholdTextCheck}
-use Rattle.readers.specs.Parallel.{Level}
-use Rattle.readers.proofs.Laws.Answers.{list-read}
-use Rattle.readers.proofs.Laws.Events.{read-good}
-use Rattle.readers.proofs.Laws.Network.{lines-pass}
-use Rattle.readers.proofs.Laws.Thresholds.{read-rising}
+use Rattle.reading.specs.Answers.{checkOf}
+use Rattle.network_reader.specs.Answers.{textNetwork, networkTextCheck}
+use Rattle.event_reader.specs.Answers.{textRows, eventTextCheck}
+use Rattle.threshold_reader.specs.Answers.{textThresholds, thresholdTextCheck}
+use Rattle.reading.specs.Parallel.{Level}
+use Rattle.reading.proofs.Laws.Answers.{list-read}
+use Rattle.event_reader.proofs.Laws.{read-good}
+use Rattle.network_reader.proofs.Laws.{lines-pass}
+use Rattle.threshold_reader.proofs.Laws.{read-rising}
 use Rattle.text.specs.EventText.{eventLines}
 use Rattle.text.specs.Lines.{feedLines, csvLines}
 use Rattle.text.specs.NetworkText.{networkLines}

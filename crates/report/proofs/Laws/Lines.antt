@@ -8,9 +8,10 @@ use Rattle.model.specs.declared.check.Check.{Check}
 use Rattle.model.specs.declared.check.Check.the-variants.{Accepted, Refused}
 use Rattle.printing.specs.Answers.{RefusalPrinted}
 use Rattle.printing.specs.declared.answers.Printed.{Printed}
-use Rattle.readers.specs.Answers.{listAnswer, networkAnswer}
-use Rattle.readers.specs.declared.answers.ReadList.the-variants as list-answer
-use Rattle.readers.specs.declared.answers.ReadNetwork.the-variants as network-answer
+use Rattle.reading.specs.Answers.{listAnswer}
+use Rattle.network_reader.specs.Answers.{networkAnswer}
+use Rattle.reading.specs.declared.answers.ReadList.the-variants as list-answer
+use Rattle.network_reader.specs.declared.answers.ReadNetwork.the-variants as network-answer
 use Rattle.report.specs.Report.{BytesPrinted, lineOr}
 
 module _ {check : Check} (file more : List ℕ) {out : List ℕ} {r : Printed} {out′ : List ℕ} where

@@ -18,8 +18,9 @@ use Rattle.printing.specs.declared.answers.Printed.{Printed}
 use Rattle.printing.specs.declared.answers.Printed.the-variants as printed
 use Rattle.printing.proofs.Laws.Digits.{digits-few}
 use Rattle.printing.proofs.Laws.Sizes.{span-few, row-length, refusal-length}
-use Rattle.readers.specs.Answers.{listIn, textThresholds}
-use Rattle.readers.proofs.Laws.Thresholds.{read-rising}
+use Rattle.reading.specs.Answers.{listIn}
+use Rattle.threshold_reader.specs.Answers.{textThresholds}
+use Rattle.threshold_reader.proofs.Laws.{read-rising}
 use Rattle.text.specs.Lines.{csvLines}
 use Rattle.text.specs.Reading.{Outcome, read, refusedAt}
 use Rattle.text.specs.ThresholdText.{thresholdLines}

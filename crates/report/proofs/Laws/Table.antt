@@ -20,8 +20,8 @@ use Rattle.model.proofs.Laws.Refusal.{both-accept}
 use Rattle.printing.specs.Answers.{TablePrinted, tableBytes}
 use Rattle.printing.specs.declared.answers.Printed.{Printed}
 use Rattle.printing.proofs.Laws.Verdict.{room-decides}
-use Rattle.readers.proofs.Laws.Answers.{front-is}
-use Rattle.readers.specs.Parallel.{Level}
+use Rattle.reading.proofs.Laws.Answers.{front-is}
+use Rattle.reading.specs.Parallel.{Level}
 use Rattle.table.specs.Table.{TableAnswered, leasts, greatests, tableAnswer, tableCheck}
 use Rattle.table.specs.declared.answers.Table.{Table}
 use Rattle.table.specs.declared.answers.Table.the-variants.{Observed, Compared, Refused}

@@ -11,16 +11,18 @@ use Rattle.model.specs.Limits.{maxEdges, maxEvents, maxThresholds}
 use Rattle.model.specs.Network.{Network, network, edges}
 use Rattle.model.specs.declared.check.Check.the-variants as check
 use Rattle.model.proofs.Laws.Checks as model
-use Rattle.readers.specs.Answers.{NetworkRead, EventsRead, ThresholdsRead, textNetwork, textRows, textThresholds, networkTextCheck, eventTextCheck, thresholdTextCheck}
-use Rattle.readers.specs.Parallel.{Level}
-use Rattle.readers.specs.declared.answers.ReadList.{ReadList}
-use Rattle.readers.specs.declared.answers.ReadList.the-variants as list-answer
-use Rattle.readers.specs.declared.answers.ReadNetwork.{ReadNetwork}
-use Rattle.readers.specs.declared.answers.ReadNetwork.the-variants as network-answer
-use Rattle.readers.proofs.Laws.Answers.{list-accepted, network-accepted}
-use Rattle.readers.proofs.Laws.Events.{events-pass}
-use Rattle.readers.proofs.Laws.Network.{network-passes}
-use Rattle.readers.proofs.Laws.Thresholds.{thresholds-pass}
+use Rattle.network_reader.specs.Answers.{NetworkRead, textNetwork, networkTextCheck}
+use Rattle.event_reader.specs.Answers.{EventsRead, textRows, eventTextCheck}
+use Rattle.threshold_reader.specs.Answers.{ThresholdsRead, textThresholds, thresholdTextCheck}
+use Rattle.reading.specs.Parallel.{Level}
+use Rattle.reading.specs.declared.answers.ReadList.{ReadList}
+use Rattle.reading.specs.declared.answers.ReadList.the-variants as list-answer
+use Rattle.network_reader.specs.declared.answers.ReadNetwork.{ReadNetwork}
+use Rattle.network_reader.specs.declared.answers.ReadNetwork.the-variants as network-answer
+use Rattle.reading.proofs.Laws.Answers.{list-accepted}
+use Rattle.network_reader.proofs.Laws.{network-accepted, network-passes}
+use Rattle.event_reader.proofs.Laws.{events-pass}
+use Rattle.threshold_reader.proofs.Laws.{thresholds-pass}
 use Rattle.printing.specs.Answers.{RefusalPrinted}
 use Rattle.printing.specs.declared.answers.Printed.{Printed}
 use Rattle.text.specs.EventText.{Row}

@@ -1,0 +1,23 @@
+// The header of a CSV text.
+ghost use Rattle.reading.specs.Header.{HeaderRead};
+
+pub enum Header {
+    // The byte at which the rows begin.
+    RowsFrom(usize),
+    Missing,
+}
+
+// 4: the first line is the header.
+pub fn read_header(header: &[u8], text: &[u8]) -> Header
+    ensures { λ r. ⌜ HeaderRead (now (header .entry)) (now (text .entry)) r ⌝ }
+{
+    if text.len() == 0 {
+        return Header::Missing;
+    }
+    let line = text::csv_line(text);
+    let end = line.end;
+    if !text::same_bytes(&text[..end], header) {
+        return Header::Missing;
+    }
+    Header::RowsFrom(line.next)
+}
