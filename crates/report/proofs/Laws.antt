@@ -5,3 +5,4 @@ pub mod Lines
 pub mod Files
 pub mod Texts
 pub mod Room
+pub mod Accepted

@@ -1,12 +1,13 @@
 -- What is printed for three texts: the line of the first that is refused, otherwise the table.
 use mathlib.Core.List.{List, [], _∷_, _++_, map}
 use mathlib.Core.Path.{_≡_}
-use Prim.Native.Nat.{ℕ, _≤_}
+use Prim.Native.Nat.{ℕ, _+_, _*_, _≤_}
 use lib.ListN.{length}
 use Rattle.model.specs.Answer.{written}
 use Rattle.model.specs.Checks.{equalSetsCheck, roomCheck}
 use Rattle.model.specs.Envelope.{Envelope, observed, envelope}
 use Rattle.model.specs.Events.{Event, events}
+use Rattle.model.specs.Limits.{maxThresholds}
 use Rattle.model.specs.Network.{Network}
 use Rattle.model.specs.Refusal.{orElse}
 use Rattle.model.specs.declared.check.Check.{Check}
@@ -73,9 +74,10 @@ bytesOverNetwork net reports thresholds = lineOr (reportsFileCheck net reports) 
 unfoldable pub reportBytes : List ℕ → List ℕ → List ℕ → List ℕ
 reportBytes network reports thresholds = lineOr (networkFileCheck network) networkName (bytesOverNetwork (textNetwork network) reports thresholds)
 
--- room that always suffices: the line of names, and 64 rows of at most four numbers of 20 digits
+-- room that always suffices: the line of names, and for each threshold that there may be a row of at most four numbers of 20 digits,
+-- three commas and a line end
 abbrev pub reportRoom : ℕ
-reportRoom = 5475
+reportRoom = 35 + maxThresholds * 85
 
 -- these bytes are printed, if there is room for them: 2 otherwise
 pub record BytesPrinted (bytes out : List ℕ) (r : Printed) (out′ : List ℕ) : Type 0 where

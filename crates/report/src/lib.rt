@@ -6,11 +6,12 @@ mod thresholds;
 
 ghost use Rattle.report.specs.Report.{ReportPrinted};
 use model::Network;
+use model::Thresholds;
 use network::read_with;
 use printing::Printed;
 
-// Room for whatever is printed.
-pub const REPORT_ROOM: usize = 5475;
+// Room for whatever is printed: the line of names, and for each threshold that there may be the longest row.
+pub const REPORT_ROOM: usize = 35 + Thresholds::MAX_THRESHOLDS * 85;
 
 // Prints the line of the first refused text, otherwise the table. Refuses a list of bytes that is too short (2), which one with
 // REPORT_ROOM entries never is.

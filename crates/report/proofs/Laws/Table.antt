@@ -22,7 +22,8 @@ use Rattle.printing.specs.declared.answers.Printed.{Printed}
 use Rattle.printing.proofs.Laws.Verdict.{room-decides}
 use Rattle.reading.proofs.Laws.Answers.{front-is}
 use Rattle.reading.specs.Parallel.{Level}
-use Rattle.table.specs.Table.{TableAnswered, leasts, greatests, tableAnswer, tableCheck}
+use Rattle.table.proofs.Laws.Columns.{spanned-most}
+use Rattle.table.specs.Table.{TableAnswered, leasts, greatests, spansCheck, tableAnswer, tableCheck}
 use Rattle.table.specs.declared.answers.Table.{Table}
 use Rattle.table.specs.declared.answers.Table.the-variants.{Observed, Compared, Refused}
 use Rattle.report.specs.Parts.{AllPass}
@@ -64,16 +65,17 @@ module _ {net : Network} {sets es xs ts o l u : List ℕ} (pass : AllPass net se
   few = thresholds-accepted ts (pass .thresholds-pass) .few
 
   -- nothing is refused
-  room : (answers : List ℕ) → length answers ≡ maxThresholds → roomCheck (length ts) answers ≡ check.Accepted
-  room answers e =
-      let fits : length ts ≤ length answers = omega (arith, few) in
-      room-accepts (length ts) answers fits
+  room : (n : ℕ) (answers : List ℕ) → n ≤ length ts → length answers ≡ maxThresholds → roomCheck n answers ≡ check.Accepted
+  room n answers h e =
+      let fits : n ≤ length answers = omega (arith, few) in
+      room-accepts n answers fits
 
   accepted : tableCheck net sets es xs ts o l u ≡ check.Accepted
-  unfolding tableCheck
+  unfolding tableCheck spansCheck
   accepted =
-      both-accept (room o (level .one))
-      (both-accept (room l (level .two)) (both-accept (room u (level .three)) (both-accept (pass .sets-pass) (pass .thresholds-pass))))
+      let spans = spanned-most (greatestSet sets) (length ts) in
+      both-accept (room (length ts) o (omega arith) (level .one))
+      (both-accept (both-accept (room _ l spans (level .two)) (room _ u spans (level .three))) (both-accept (pass .sets-pass) (pass .thresholds-pass)))
 
   module _ {answer : Table} {o′ l′ u′ : List ℕ} (answered : TableAnswered net sets es xs ts o l u answer o′ l′ u′) where
     answer-is : answer ≡ tableAnswer check.Accepted (greatestSet sets)

@@ -29,6 +29,11 @@ unfolding spanned
 spanned-all zero width some = absurd (some refl)
 spanned-all (suc greatest) width some = refl
 
+pub spanned-most : (greatest width : ℕ) → spanned greatest width ≤ width
+unfolding spanned
+spanned-most zero width = omega arith
+spanned-most (suc greatest) width = omega arith
+
 -- answers that were put into the front of a list
 front-written : (answers old new : List ℕ) (n : ℕ) → new ≡ answers → length new ≡ n → new ++ drop n old ≡ written check.Accepted answers old
 unfolding written
