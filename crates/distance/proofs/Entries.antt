@@ -1,16 +1,17 @@
--- Rows of entries: how one is copied, and that it is the row of distances.
+-- Rows of entries: how one is copied, that it is the row of distances, and how far these go.
 use mathlib.Core.List.{List, [], _∷_, _++_, map}
 use mathlib.Core.Path.{_≡_, _∙_, refl, sym, ap}
-use Prim.Native.Nat.{ℕ, zero, suc, _+_, _<_}
+use Prim.Native.Nat.{ℕ, zero, suc, _+_, _*_, _<_, _≤_}
 use native.Mathlib.Numerals.{add-one}
 use native.Mathlib.Omega.{arith}
-use lib.ListN.{length, getD, take, drop, set, length-drop, length-map}
+use lib.ListN.{length, getD, take, drop, set, length-drop}
 use lib.Seq.{drop-cons, take-suc, append-snoc, set-at, length-take-le, getD-take, getD-drop}
-use Rattle.model.proofs.Laws.Lists.{numbers-length}
+use Rattle.model.proofs.Laws.Within.{code-unique}
 use Rattle.model.specs.Counting.{numbersFrom}
 use Rattle.model.specs.Distance.{code}
+use Rattle.model.specs.Limits.{maxLength, maxNodes}
 use Rattle.model.specs.Network.{Network}
-use Rattle.model.specs.NodeDistance.{boundedDistance}
+use Rattle.model.specs.NodeDistance.{nodeDistance, boundedDistance}
 use Rattle.distance.specs.Answers.{distanceRow}
 use Rattle.distance.specs.Search.{Searched}
 
@@ -40,7 +41,10 @@ searched-row {net} {source} {bound} {dist} s room =
     (length-take-le (net .nodes) (drop 1 dist) (rw length-drop (omega arith)))
     (λ k h. getD-take (net .nodes) (drop 1 dist) k 0 h ∙ getD-drop 1 dist k 0 ∙ s .at (1 + k) .bounded)
 
--- a row has an entry for each node
-pub row-length : (net : Network) (bound source : ℕ) → length (distanceRow net bound source) ≡ net .nodes
-unfolding distanceRow
-row-length net bound source = length-map (numbersFrom 1 (net .nodes)) (λ v. code (boundedDistance net bound source v)) ∙ numbers-length 1 (net .nodes)
+-- the entries say how far any node is at most
+pub searched-small : {net : Network} {source bound : ℕ} {dist : List ℕ} → Searched net source bound dist → (v : ℕ) → code (boundedDistance net bound source v) ≤ suc (maxLength * maxNodes)
+searched-small s v = rw (s .at v .bounded) at (s .at v .small)
+
+-- and that a wide bound cuts nothing off
+pub searched-whole : {net : Network} {source bound : ℕ} {dist : List ℕ} → Searched net source bound dist → maxLength * maxNodes ≤ bound → (v : ℕ) → boundedDistance net bound source v ≡ nodeDistance net source v
+searched-whole s wide v = code-unique _ _ (sym (s .at v .bounded) ∙ s .at v .whole wide)

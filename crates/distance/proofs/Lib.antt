@@ -1,4 +1,5 @@
 -- Facts that belong to no one function.
+pub mod Laws
 mod Lists
 mod Ways
 mod Chains
@@ -15,6 +16,4 @@ mod Going
 mod Turns
 mod Entries
 mod Verdicts
-mod Answered
-mod Routes
 mod Tables

@@ -1,48 +1,20 @@
 -- What the public functions answer, and what they leave in answer lists.
 use mathlib.Core.Bool.{cond}
-use mathlib.Core.List.{List, [], _∷_, _++_, map}
+use mathlib.Core.List.{List, [], _++_, map}
 use mathlib.Core.Path.{_≡_}
-use Prim.Native.Nat.{ℕ, zero, suc, pred, _+_, _*_}
+use Prim.Native.Nat.{ℕ, zero, suc, pred, _*_, _≤_}
 use lib.Dec.{eqb}
 use lib.ListN.{length, getD, take, drop}
 use Rattle.model.specs.Answer.{written}
-use Rattle.model.specs.Checks.{networkLists, networkValues, loneNodeCheck, roomCheck, nodesOverNetworkCheck, locationsOverNetworkCheck}
+use Rattle.model.specs.Checks.{networkLists, networkValues, loneNodeCheck, roomCheck}
 use Rattle.model.specs.Counting.{numbersFrom}
-use Rattle.model.specs.Distance.{Distance, metres, none, code}
-use Rattle.model.specs.Location.{locationOf, locationDistance}
+use Rattle.model.specs.Distance.{code}
+use Rattle.model.specs.Limits.{maxLength, maxNodes}
 use Rattle.model.specs.Network.{Network}
 use Rattle.model.specs.NodeDistance.{nodeDistance, boundedDistance}
 use Rattle.model.specs.Refusal.{orElse, unless, listsDiffer}
 use Rattle.model.specs.declared.check.Check.{Check}
-use Rattle.model.specs.declared.check.Check.the-variants.{Accepted, Refused}
-use Rattle.distance.specs.declared.answers.Length.{Length}
-use Rattle.distance.specs.declared.answers.Length.the-variants as length-answer
-use Rattle.distance.specs.declared.answers.BoundedLength.{BoundedLength}
-use Rattle.distance.specs.declared.answers.BoundedLength.the-variants as bounded-answer
-
--- a distance, or a refusal
-unfoldable pub lengthAnswer : Check → Distance → Length
-lengthAnswer Accepted (metres n) = length-answer.Metres n
-lengthAnswer Accepted none = length-answer.NoWalk
-lengthAnswer (Refused number place) d = length-answer.Refused number place
-
--- a bounded distance, or a refusal
-unfoldable pub boundedAnswer : Check → Distance → BoundedLength
-boundedAnswer Accepted (metres n) = bounded-answer.Metres n
-boundedAnswer Accepted none = bounded-answer.Beyond
-boundedAnswer (Refused number place) d = bounded-answer.Refused number place
-
-unfoldable pub nodeAnswer : Network → ℕ → ℕ → Length
-nodeAnswer net u v = lengthAnswer (nodesOverNetworkCheck net u v) (nodeDistance net u v)
-
-unfoldable pub boundedNodeAnswer : Network → ℕ → ℕ → ℕ → BoundedLength
-boundedNodeAnswer net bound u v = boundedAnswer (nodesOverNetworkCheck net u v) (boundedDistance net bound u v)
-
--- two locations, each an edge number and an offset
-unfoldable pub locationAnswer : Network → ℕ → ℕ → ℕ → ℕ → Length
-locationAnswer net e x f y =
-    lengthAnswer (locationsOverNetworkCheck net e x f y)
-    (locationDistance net (locationOf net (pred e) x) (locationOf net (pred f) y))
+use Rattle.model.specs.declared.check.Check.the-variants.{Accepted}
 
 -- the codes of the bounded distances from a source to every node, in node order
 unfoldable pub distanceRow : Network → ℕ → ℕ → List ℕ
@@ -56,6 +28,10 @@ rowCheck net source answers =
 pub record RowAnswered (net : Network) (source bound : ℕ) (answers : List ℕ) (r : Check) (answers′ : List ℕ) : Type 0 where
   pub verdict : r ≡ rowCheck net source answers
   pub after : answers′ ≡ written (rowCheck net source answers) (distanceRow net bound source) answers
+  -- no distance is above the greatest length times the greatest number of nodes
+  pub small : r ≡ Accepted → (v : ℕ) → code (boundedDistance net bound source v) ≤ suc (maxLength * maxNodes)
+  -- so a bound no less than that cuts nothing off
+  pub whole : r ≡ Accepted → maxLength * maxNodes ≤ bound → (v : ℕ) → boundedDistance net bound source v ≡ nodeDistance net source v
 
 -- 01: leg-end distances. A square table with a row for each node; a row that is not wanted (its entry of the list is 0) stays as it was
 unfoldable pub tableRows : Network → ℕ → List ℕ → List ℕ → ℕ → ℕ → List ℕ

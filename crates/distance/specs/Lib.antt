@@ -3,5 +3,4 @@ pub mod Answers
 pub mod Arcs
 pub mod Keys
 pub mod Search
-pub mod Routes
 pub mod Table

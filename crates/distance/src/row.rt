@@ -5,7 +5,7 @@ ghost use Prim.Native.Nat.{_<_, _≤_};
 ghost use lib.ListN.{length, take, drop};
 ghost use Rattle.model.specs.Network.{network};
 ghost use Rattle.distance.specs.Answers.{rowCheck, distanceRow, RowAnswered};
-ghost use Rattle.distance.specs.Search.{Askable};
+ghost use Rattle.distance.specs.Search.{Askable, Searched};
 use crate::find::find;
 use model::Check;
 use model::Network;
@@ -54,6 +54,7 @@ fn write_row(
     requires { ⌜ Askable (network nodes (now firsts) (now seconds) (now lengths)) source (now dist) ⌝ }
     requires { ⌜ nodes ≤ length (now answers) ⌝ }
     ensures { λ _. ⌜ now (answers .exit) ≡ distanceRow (network nodes (now (firsts .entry)) (now (seconds .entry)) (now (lengths .entry))) bound source ++ drop nodes (now (answers .entry)) ⌝ }
+    ensures { λ _. ⌜ Searched (network nodes (now (firsts .entry)) (now (seconds .entry)) (now (lengths .entry))) source bound (now (dist .exit)) ⌝ }
 {
     find(nodes, firsts, seconds, lengths, source, bound, dist);
     copy_row(nodes, dist, answers);

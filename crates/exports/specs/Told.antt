@@ -4,10 +4,10 @@ use Prim.Native.Nat.{ℕ, suc}
 use Rattle.model.specs.declared.check.Check.{Check}
 use Rattle.model.specs.declared.check.Check.the-variants.{Accepted, Refused}
 use Rattle.model.specs.Refusal.{numberOf, placeOf}
-use Rattle.distance.specs.declared.answers.Length.{Length}
-use Rattle.distance.specs.declared.answers.Length.the-variants as length-answer
-use Rattle.distance.specs.declared.answers.BoundedLength.{BoundedLength}
-use Rattle.distance.specs.declared.answers.BoundedLength.the-variants as bounded-answer
+use Rattle.between.specs.declared.answers.Length.{Length}
+use Rattle.between.specs.declared.answers.Length.the-variants as length-answer
+use Rattle.between.specs.declared.answers.BoundedLength.{BoundedLength}
+use Rattle.between.specs.declared.answers.BoundedLength.the-variants as bounded-answer
 use Rattle.perimeter.specs.declared.Counted.{Counted}
 use Rattle.perimeter.specs.declared.Counted.the-variants as count-answer
 use Rattle.reading.specs.declared.answers.ReadList.{ReadList}

@@ -8,7 +8,8 @@ ghost use lib.ListN.{length};
 ghost use Rattle.model.specs.Checks.{layoutCheck};
 ghost use Rattle.model.specs.Network.{network};
 ghost use Rattle.layout.specs.Layout.{LaidOut};
-ghost use Rattle.distance.specs.Answers.{rowCheck, RowAnswered, tableCheck, TableAnswered, nodeAnswer, boundedNodeAnswer, locationAnswer};
+ghost use Rattle.distance.specs.Answers.{rowCheck, RowAnswered, tableCheck, TableAnswered};
+ghost use Rattle.between.specs.Answers.{nodeAnswer, boundedNodeAnswer, locationAnswer};
 ghost use Rattle.perimeter.specs.Answers.{perimeterAnswer};
 ghost use Rattle.reading.specs.Answers.{listAnswer};
 ghost use Rattle.threshold_reader.specs.Answers.{thresholdTextCheck, textThresholds, ThresholdsRead};
@@ -85,7 +86,7 @@ pub extern "C" fn kc_node_distance(
 ) -> u64
     ensures { λ r. ⌜ ToldWith (lengthVerdict (nodeAnswer (network nodes (now (firsts .entry)) (now (seconds .entry)) (now (lengths .entry))) u v)) (lengthCode (nodeAnswer (network nodes (now (firsts .entry)) (now (seconds .entry)) (now (lengths .entry))) u v)) r (now (number .exit)) (now (place .exit)) ⌝ }
 {
-    let answer = distance::node_distance(nodes, firsts, seconds, lengths, u, v);
+    let answer = between::node_distance(nodes, firsts, seconds, lengths, u, v);
     told::tell_length(answer, number, place)
 }
 
@@ -104,7 +105,7 @@ pub extern "C" fn kc_bounded_node_distance(
 ) -> u64
     ensures { λ r. ⌜ ToldWith (boundedVerdict (boundedNodeAnswer (network nodes (now (firsts .entry)) (now (seconds .entry)) (now (lengths .entry))) bound u v)) (boundedCode (boundedNodeAnswer (network nodes (now (firsts .entry)) (now (seconds .entry)) (now (lengths .entry))) bound u v)) r (now (number .exit)) (now (place .exit)) ⌝ }
 {
-    let answer = distance::bounded_node_distance(nodes, firsts, seconds, lengths, bound, u, v);
+    let answer = between::bounded_node_distance(nodes, firsts, seconds, lengths, bound, u, v);
     told::tell_bounded(answer, number, place)
 }
 
@@ -124,7 +125,7 @@ pub extern "C" fn kc_location_distance(
 ) -> u64
     ensures { λ r. ⌜ ToldWith (lengthVerdict (locationAnswer (network nodes (now (firsts .entry)) (now (seconds .entry)) (now (lengths .entry))) edge1 offset1 edge2 offset2)) (lengthCode (locationAnswer (network nodes (now (firsts .entry)) (now (seconds .entry)) (now (lengths .entry))) edge1 offset1 edge2 offset2)) r (now (number .exit)) (now (place .exit)) ⌝ }
 {
-    let answer = distance::location_distance(
+    let answer = between::location_distance(
         nodes,
         firsts,
         seconds,

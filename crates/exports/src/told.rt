@@ -1,7 +1,7 @@
 // An answer told as plain numbers: a refusal through number and place, 0 and 0 where there is none.
 ghost use Rattle.exports.specs.Told.{Told, ToldWith, lengthVerdict, lengthCode, boundedVerdict, boundedCode, countVerdict, countOf, listVerdict, readOf, ToldNetwork};
-use distance::BoundedLength;
-use distance::Length;
+use between::BoundedLength;
+use between::Length;
 use model::Check;
 use network_reader::ReadNetwork;
 use perimeter::Counted;

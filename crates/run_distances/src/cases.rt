@@ -3,9 +3,9 @@ use crate::show::bounded;
 use crate::show::counted;
 use crate::show::length;
 use crate::show::list;
-use distance::bounded_node_distance;
-use distance::location_distance;
-use distance::node_distance;
+use between::bounded_node_distance;
+use between::location_distance;
+use between::node_distance;
 use perimeter::perimeter_count;
 
 // P5 to P9: 01's network, centre on edge 1 at offset 1.

@@ -1,6 +1,6 @@
 // Printing what the functions answer.
-use distance::BoundedLength;
-use distance::Length;
+use between::BoundedLength;
+use between::Length;
 use libc::STDOUT_FILENO;
 use perimeter::Counted;
 

@@ -9,13 +9,13 @@ use borrow.Author.Tests.{eq-eqb, ne-eqb}
 use lib.Dec.{eqb}
 use lib.ListN.{length, getD, drop, length-append, length-drop, length-map}
 use lib.Seq.{ext-getD}
+use Rattle.distance.proofs.Laws.Rows.{from-numbers}
 use Rattle.model.proofs.Laws.Checks.{AreEvents}
 use Rattle.model.proofs.Laws.Lists.{numbers-length}
 use Rattle.model.specs.Answer.{written}
 use Rattle.model.specs.Events.{having}
 use Rattle.model.specs.Location.{Side, at-first, at-second}
 use Rattle.model.specs.Network.{Network, size}
-use Rattle.prepare.proofs.Laws.Table.{from-numbers}
 use Rattle.model.specs.Counting.{numbersFrom}
 use Rattle.model.specs.declared.check.Check.{Check}
 use Rattle.model.specs.declared.check.Check.the-variants.{Accepted, Refused}

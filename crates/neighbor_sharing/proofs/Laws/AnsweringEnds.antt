@@ -1,52 +1,29 @@
 -- The codes between the ends of two edges, found by a search from each end of the first.
-use mathlib.Core.List.{List, [], _++_}
-use mathlib.Core.Path.{_≡_, _∙_, refl, ap}
+use mathlib.Core.List.{List}
+use mathlib.Core.Path.{_≡_, refl}
 use Prim.Native.Nat.{ℕ, pred, _-_, _<_}
 use native.Mathlib.Numerals.{sub-one}
 use native.Mathlib.Omega.{arith}
-use borrow.Author.Tests.{le-leb}
 use lib.Dec.{eqb}
-use lib.ListN.{length, getD, drop, List·getD-append}
-use Rattle.distance.specs.Answers.{distanceRow, rowCheck, RowAnswered}
-use Rattle.model.proofs.Laws.CheckParts.{true-node}
+use lib.ListN.{length, getD}
+use Rattle.distance.proofs.Laws.Rows.{row-entry}
+use Rattle.distance.specs.Answers.{RowAnswered}
 use Rattle.model.proofs.Laws.Checks.{IsNetwork, network-accepted}
-use Rattle.model.proofs.Laws.Refusal.{both-accepted, both-accept, unless-accepts}
-use Rattle.model.specs.Answer.{written}
-use Rattle.model.specs.Checks.{networkCheck, networkValues, roomCheck, loneNodeCheck}
 use Rattle.model.specs.Distance.{code}
 use Rattle.model.specs.Limits.{maxNodes}
 use Rattle.model.specs.Location.{Side, at-first, at-second, endNode}
 use Rattle.model.specs.Network.{Network, IsNode, first, second, size}
 use Rattle.model.specs.NodeDistance.{boundedDistance}
-use Rattle.model.specs.Refusal.{listsDiffer, badNode}
 use Rattle.model.specs.declared.check.Check.{Check}
-use Rattle.model.specs.declared.check.Check.the-variants.{Accepted}
 use Rattle.neighbor_sharing.specs.Asked.{EndsAsked, EndsReached, EdgesAsked, EdgesFound, TwoEdges}
 use Rattle.neighbor_sharing.specs.Six.{codeBetween}
 use Rattle.neighbor_sharing.specs.declared.asked.EndCodes.{EndCodes}
 use Rattle.neighbor_sharing.specs.declared.sweep.Edges.{Edges}
-use Rattle.prepare.proofs.Laws.Table.{row-length, row-entry}
-
-written-then : (r : Check) (answers old : List ℕ) → r ≡ Accepted → written r answers old ≡ answers ++ drop (length answers) old
-unfolding written
-written-then r answers old e = rw e
 
 module _ {net : Network} {source j : ℕ} {row : List ℕ} (asked : EndsAsked net source j row) where
-  row-accepts : rowCheck net source row ≡ Accepted
-  unfolding rowCheck networkCheck networkValues roomCheck loneNodeCheck
-  row-accepts =
-      let both = both-accepted _ _ (asked .accepted) in
-      let values = both-accepted _ _ (both .1) in
-      both-accept (both .0)
-      (both-accept (unless-accepts _ listsDiffer 0 (le-leb _ _ (asked .room)))
-      (both-accept (values .0) (both-accept (unless-accepts _ badNode 0 (true-node net source (asked .source-is))) (both-accepted _ _ (values .1) .1))))
-
   -- a node's entry of the row that a search has filled
   pub row-code : {bound v : ℕ} {r : Check} {new : List ℕ} → RowAnswered net source bound row r new → IsNode net v → getD new (pred v) 0 ≡ code (boundedDistance net bound source v)
-  row-code {bound} {v} answered node =
-      ap (λ (l : List ℕ). getD l (pred v) 0) (answered .after ∙ written-then _ (distanceRow net bound source) row row-accepts)
-      ∙ List·getD-append (distanceRow net bound source) _ 0 (pred v) (omega (arith, row-length net bound [] [] source, node .from-one, node .to-nodes))
-      ∙ row-entry net bound [] [] source v node
+  row-code {v = v} answered node = row-entry answered (asked .accepted) (asked .source-is) (asked .room) v node
 
   -- the ends of the second edge
   pub is-network : IsNetwork net

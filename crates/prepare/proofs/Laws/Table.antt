@@ -1,40 +1,22 @@
 -- Entries of the table of leg-end distances.
 use mathlib.Core.Bool.{Bool, true, false, cond}
-use mathlib.Core.List.{List, _++_, map}
+use mathlib.Core.List.{List, _++_}
 use mathlib.Core.Path.{_≡_, ap, _∙_}
 use Prim.Native.Nat.{ℕ, zero, suc, pred, _+_, _*_, _≤_, _<_}
 use native.Mathlib.Nat.{mul-le-mul-right, suc-mul}
 use native.Mathlib.Omega.{arith}
 use lib.Dec.{eqb}
-use lib.ListN.{length, getD, take, drop, length-append, length-drop, length-map, List·getD-append}
+use lib.ListN.{length, getD, take, drop, length-append, length-drop, List·getD-append}
 use lib.Seq.{getD-append-add, length-take-le}
 use borrow.Author.Tests.{ne-eqb}
+use Rattle.distance.proofs.Laws.Rows.{row-length, row-at}
 use Rattle.distance.specs.Answers.{distanceRow, tableRows, table}
-use Rattle.model.proofs.Laws.Lists.{numbers-length}
-use Rattle.model.specs.Counting.{numbersFrom}
 use Rattle.model.specs.Distance.{code}
 use Rattle.model.specs.Network.{Network, IsNode}
 use Rattle.model.specs.NodeDistance.{boundedDistance}
 use Rattle.prepare.specs.Prepared.{entry}
 
--- the entry of a list made from successive numbers
-pub from-numbers : (f : ℕ → ℕ) (start n i : ℕ) → i < n → getD (map f (numbersFrom start n)) i 0 ≡ f (start + i)
-unfolding numbersFrom
-from-numbers f start zero i h = absurd (omega arith)
-from-numbers f start (suc n) zero h = ap f (omega arith)
-from-numbers f start (suc n) (suc i) h = from-numbers f (suc start) n i (omega arith) ∙ ap f (omega arith)
-
 module _ (net : Network) (bound : ℕ) (wanted old : List ℕ) where
-  pub row-length : (u : ℕ) → length (distanceRow net bound u) ≡ net .nodes
-  unfolding distanceRow
-  row-length u = length-map (numbersFrom 1 (net .nodes)) _ ∙ numbers-length 1 (net .nodes)
-
-  pub row-entry : (u v : ℕ) → IsNode net v → getD (distanceRow net bound u) (pred v) 0 ≡ code (boundedDistance net bound u v)
-  unfolding distanceRow
-  row-entry u v node =
-      from-numbers _ 1 (net .nodes) (pred v) (omega (arith, node .from-one, node .to-nodes))
-      ∙ ap (λ (n : ℕ). code (boundedDistance net bound u n)) (omega (arith, node .from-one))
-
   -- the row of a node, wanted or not
   abbrev rowOf : ℕ → List ℕ
   rowOf u = cond (eqb (getD wanted (pred u) 0) 0) (take (net .nodes) (drop (pred u * net .nodes) old)) (distanceRow net bound u)
@@ -48,7 +30,7 @@ module _ (net : Network) (bound : ℕ) (wanted old : List ℕ) where
       where
         go : (b : Bool) → length (cond b (take (net .nodes) (drop (pred u * net .nodes) old)) (distanceRow net bound u)) ≡ net .nodes
         go true = length-take-le (net .nodes) (drop (pred u * net .nodes) old) (rw length-drop (omega (arith, rows-fit (pred u) (omega arith), suc-mul (pred u) (net .nodes))))
-        go false = row-length u
+        go false = row-length net bound u
 
     rows-length : (more u : ℕ) → 1 ≤ u → u + more ≤ suc (net .nodes) → length (tableRows net bound wanted old u more) ≡ more * net .nodes
     unfolding tableRows
@@ -86,4 +68,4 @@ module _ (net : Network) (bound : ℕ) (wanted old : List ℕ) where
         (omega (arith, rows-length (net .nodes) 1 (omega arith) (omega arith), rows-fit (pred u) (omega (arith, nu .to-nodes)), suc-mul (pred u) (net .nodes)))
         ∙ rows-entry (net .nodes) 1 (pred u) (pred v) (omega arith) (omega arith) (omega (arith, nu .to-nodes)) inside
         ∙ ap (λ (n : ℕ). getD (rowOf n) (pred v) 0) same
-        ∙ simp (ne-eqb _ _ is) (row-entry u v nv)
+        ∙ simp (ne-eqb _ _ is) (row-at net bound u v nv)

@@ -1,6 +1,6 @@
 -- `write_row`: what the search leaves is the row, and it is copied.
 use mathlib.Core.List.{List, _++_}
-use mathlib.Core.Path.{_≡_, _∙_, ap}
+use mathlib.Core.Path.{_∙_, ap}
 use Prim.Native.Nat.{ℕ}
 use native.Mathlib.Omega.{arith}
 use lib.ListN.{drop}
@@ -24,8 +24,11 @@ same-length-2 c = search needs
 returns : tie.Need-returns
 returns c =
     let start = c .before .before .before .before .before .before .before .before .before .before .before .before .before .before in
-    c .before .before .copy-row .ensures
-    ∙ ap (λ (l : List ℕ). l ++ drop (start .args .nodes) (start .args .answers .now)) (searched-row (c .before .before .before .before .before .before .before .find .ensures) (omega (arith, start .pre .0 .room, c .before .before .before .before .before .before .before .find .kept)))
+    let found = c .before .before .before .before .before .before .before .find in (
+      c .before .before .copy-row .ensures
+          ∙ ap (λ (l : List ℕ). l ++ drop (start .args .nodes) (start .args .answers .now)) (searched-row (found .ensures) (omega (arith, start .pre .0 .room, found .kept))),
+      found .ensures,
+    )
 
 pub write-row-spec : {M : Type 1} → statement M
 write-row-spec =

@@ -1,0 +1,20 @@
+-- `with_gaps`: see proofs/Routes.
+use Rattle.between.proofs.Routes.{no-route, a-route}
+use borrow.Author.Needs.{needs}
+use Rattle.between.proofs.locations.with_gaps.Statement.{statement}
+use Rattle.between.proofs.locations.with_gaps.Tie as tie
+
+returns : tie.Need-returns
+returns c = λ d e. no-route _ _ d (c .if1 .taken) e
+
+add-result : tie.Need-add-result
+add-result c = search needs
+
+add-result-2 : tie.Need-add-result-2
+add-result-2 c = search needs
+
+returns-2 : tie.Need-returns-2
+returns-2 c = λ d e. a-route _ _ d (c .if1 .left) e
+
+pub with-gaps-spec : {M : Type 1} → statement M
+with-gaps-spec = tie.close (tie.spec returns add-result add-result-2 returns-2)
