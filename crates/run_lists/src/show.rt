@@ -1,26 +1,22 @@
-// Printing what the functions answer.
+// Printing verdicts and lists.
 use libc::STDOUT_FILENO;
 use model::Check;
 
-pub(crate) fn number(n: u64) {
+pub(crate) fn word(text: &[u8]) {
+    io::write_all(STDOUT_FILENO, text);
+}
+
+fn number(n: u64) {
     io::print_decimal(STDOUT_FILENO, n);
-    io::write_all(STDOUT_FILENO, b" ");
+    word(b" ");
 }
 
 fn entry(n: u32) {
     number(n as u64);
 }
 
-pub(crate) fn line_end() {
-    io::write_all(STDOUT_FILENO, b"\n");
-}
-
-pub(crate) fn word(text: &[u8]) {
-    io::write_all(STDOUT_FILENO, text);
-}
-
-pub(crate) fn verdict(name: &[u8], check: Check) {
-    word(name);
+// A verdict, behind the name of what was checked.
+pub(crate) fn verdict(check: Check) {
     match check {
         Check::Accepted => word(b" accepted"),
         Check::Refused(n, place) => {
@@ -29,16 +25,23 @@ pub(crate) fn verdict(name: &[u8], check: Check) {
             number(place as u64);
         }
     }
-    line_end();
+    word(b"\n");
 }
 
-pub(crate) fn list(name: &[u8], numbers: &[u32]) {
-    word(name);
+// The numbers of a list, behind its name.
+pub(crate) fn entries(numbers: &[u32]) {
     word(b" ");
     let mut k = 0;
     while k < numbers.len() {
         entry(numbers[k]);
         k += 1;
     }
-    line_end();
+    word(b"\n");
+}
+
+// The number told beside a list.
+pub(crate) fn told(n: u32) {
+    word(b"number ");
+    entry(n);
+    word(b"\n");
 }

@@ -2,14 +2,20 @@
 use Prim.Native.Nat.{_-_}
 use lib.ListN.{length}
 use borrow.Author.Needs.{needs}
-use Rattle.run_counts.proofs.show.entries.Statement.{statement}
-use Rattle.run_counts.proofs.show.entries.Tie as tie
+use Rattle.run_lists.proofs.answers.entries.Statement.{statement}
+use Rattle.run_lists.proofs.answers.entries.Tie as tie
 
 abbrev Inv-loop : tie.InvT-loop
 Inv-loop numbers k₀ k = Unit {0}
 
 abbrev μ-loop : tie.MeasureT-loop
 μ-loop numbers k₀ k = length numbers - k
+
+slice-aggregate-word : tie.Need-slice-aggregate-word Inv-loop μ-loop
+slice-aggregate-word c = search needs
+
+word-requires : tie.Need-word-requires Inv-loop μ-loop
+word-requires c κs = search needs
 
 loop-holds : tie.Need-loop-holds Inv-loop μ-loop
 loop-holds c = search needs
@@ -32,6 +38,9 @@ loop-less c = search needs
 loop-again : tie.Need-loop-again Inv-loop μ-loop
 loop-again c = search needs
 
+line-end-requires : tie.Need-line-end-requires Inv-loop μ-loop
+line-end-requires c κs = search needs
+
 returns : tie.Need-returns Inv-loop μ-loop
 returns c = search needs
 
@@ -41,6 +50,8 @@ entries-spec =
     (tie.spec
     Inv-loop
     μ-loop
+    slice-aggregate-word
+    word-requires
     loop-holds
     mul-entry
     shared-slice-read-entry
@@ -48,4 +59,5 @@ entries-spec =
     add-k
     loop-less
     loop-again
+    line-end-requires
     returns)

@@ -1,29 +1,21 @@
--- `list` passes every number once.
+-- Every number is passed once.
 use Prim.Native.Nat.{_-_}
 use lib.ListN.{length}
 use borrow.Author.Needs.{needs}
-use Rattle.run_lists.proofs.show.list.Statement.{statement}
-use Rattle.run_lists.proofs.show.list.Tie as tie
-use Rattle.run_lists.proofs.show.list.Reads as reads
-use Rattle.run_lists.proofs.show.list.Lts as lts
-use Rattle.run_lists.proofs.show.entry.Reads as entry-reads
-use Rattle.run_lists.proofs.show.line_end.Reads as line-end-reads
-use Rattle.run_lists.proofs.show.word.Reads as word-reads
+use Rattle.run_lists.proofs.show.entries.Statement.{statement}
+use Rattle.run_lists.proofs.show.entries.Tie as tie
 
 abbrev Inv-loop : tie.InvT-loop
-Inv-loop name numbers k₀ k = Unit {0}
+Inv-loop numbers k₀ t4 k = Unit {0}
 
 abbrev μ-loop : tie.MeasureT-loop
-μ-loop name numbers k₀ k = length numbers - k
-
-word-requires : tie.Need-word-requires Inv-loop μ-loop
-word-requires c κs = search needs
+μ-loop numbers k₀ t4 k = length numbers - k
 
 slice-aggregate-word : tie.Need-slice-aggregate-word Inv-loop μ-loop
 slice-aggregate-word c = search needs
 
-word-requires-2 : tie.Need-word-requires-2 Inv-loop μ-loop
-word-requires-2 c κs = search needs
+word-requires : tie.Need-word-requires Inv-loop μ-loop
+word-requires c κs = search needs
 
 loop-holds : tie.Need-loop-holds Inv-loop μ-loop
 loop-holds c = search needs
@@ -46,21 +38,23 @@ loop-less c = search needs
 loop-again : tie.Need-loop-again Inv-loop μ-loop
 loop-again c = search needs
 
-line-end-requires : tie.Need-line-end-requires Inv-loop μ-loop
-line-end-requires c κs = search needs
+slice-aggregate-word-2 : tie.Need-slice-aggregate-word-2 Inv-loop μ-loop
+slice-aggregate-word-2 c = search needs
+
+word-requires-2 : tie.Need-word-requires-2 Inv-loop μ-loop
+word-requires-2 c κs = search needs
 
 returns : tie.Need-returns Inv-loop μ-loop
 returns c = search needs
 
-pub list-spec : {M : Type 1} → statement M
-list-spec =
+pub entries-spec : {M : Type 1} → statement M
+entries-spec =
     tie.close
     (tie.spec
     Inv-loop
     μ-loop
-    word-requires
     slice-aggregate-word
-    word-requires-2
+    word-requires
     loop-holds
     mul-entry
     shared-slice-read-entry
@@ -68,5 +62,6 @@ list-spec =
     add-k
     loop-less
     loop-again
-    line-end-requires
+    slice-aggregate-word-2
+    word-requires-2
     returns)
