@@ -16,7 +16,8 @@ void kc_distances_from(uint32_t nodes, const uint32_t *firsts, size_t firsts_len
                        size_t seconds_len, const uint32_t *lengths, size_t lengths_len, uint32_t source, uint32_t bound,
                        uint32_t *answers, size_t answers_len, uint32_t *number, size_t *place);
 
-/* A row of distances for every node whose entry of wanted is not 0, into a table of nodes times nodes entries. */
+/* A row of distances for every node whose entry of wanted, which has exactly one for each node, is not 0, into a table of
+   nodes times nodes entries. */
 void kc_end_distances(uint32_t nodes, const uint32_t *firsts, size_t firsts_len, const uint32_t *seconds,
                       size_t seconds_len, const uint32_t *lengths, size_t lengths_len, uint32_t bound,
                       const uint32_t *wanted, size_t wanted_len, uint32_t *table, size_t table_len, uint32_t *number,
