@@ -1,7 +1,7 @@
 -- Two runs: bounds on what their events reach, and what is looked up for them.
 use mathlib.Core.Bool.{Bool, false}
 use mathlib.Core.List.{List}
-use mathlib.Core.Path.{_≡_, refl, sym, _∙_}
+use mathlib.Core.Path.{_≡_, refl, sym, ap, _∙_}
 use Prim.Native.Nat.{ℕ, zero, suc, _+_, _-_, _*_, _≤_, _<_, min, max}
 use native.Mathlib.Nat.{suc-mul, mul-le-mul}
 use native.Mathlib.Omega.{arith}
@@ -10,7 +10,8 @@ use lib.ListN.{length, getD}
 use Rattle.model.proofs.Laws.Counting.{count-at-most, sum-below-zero, sum-below-cong, sum-below-mono}
 use Rattle.model.specs.Counting.{sumBelow}
 use Rattle.model.specs.Limits.{maxPairs}
-use Rattle.count_augmentation.specs.Pairs.{lesserEntry, leastEntry, toFirst, toSecond, reachedBy, reachedPairs, lookedUpBy, lookedUpPairs, TwoRuns}
+use Rattle.prepare.specs.Totals.{AddedAt}
+use Rattle.count_augmentation.specs.Pairs.{lesserEntry, leastEntry, toFirst, toSecond, reachedBy, reachedPairs, lookedUpBy, lookedUpPairs, TwoRuns, TwoRunsStored}
 use Rattle.count_augmentation.specs.Reach.{reachOf, farthest, reached, Run}
 use Rattle.count_augmentation.specs.Storing.{NumbersStored, storedLast}
 use Rattle.count_augmentation.specs.declared.pairs.EdgePair.{EdgePair}
@@ -146,6 +147,11 @@ module _ (g : EdgePair) (t : ℕ) where
     pairs-counted read stored =
         let same = read ∙ pairs-looked-up stored in
         (same, omega (arith, same, pairs-at-most xs ys, mul-le-mul (two .few) (two .run .few)))
+
+-- what is looked up at each threshold of right numbers is what is reached
+pub all-reached : {g : EdgePair} {xs ys near-first near-second : List ℕ} {n : ℕ} {old new : List ℕ} (ts : List ℕ) → TwoRunsStored g xs ys near-first near-second → AddedAt n (λ k. lookedUpPairs g (getD ts k 0) xs ys near-first near-second) old new → AddedAt n (λ k. reachedPairs g (getD ts k 0) xs ys) old new
+all-reached {g} {old = old} ts two added =
+    record { at = λ k h. added .at k h ∙ ap (λ (m : ℕ). getD old k 0 + m) (pairs-looked-up g (getD ts k 0) (two .runs) (two .stored)) }
 
 -- two edges with equal entries
 pub same-pair : {p q ff fs sf ss ff′ fs′ sf′ ss′ least : ℕ} {same : Bool} → ff ≡ ff′ → fs ≡ fs′ → sf ≡ sf′ → ss ≡ ss′ → least ≡ leastEntry ff fs sf ss → _≡_ {A = EdgePair} (record { size = p; other = q; firsts = ff; onward = fs; back = sf; seconds = ss; same = same; least = least }) (record { size = p; other = q; firsts = ff′; onward = fs′; back = sf′; seconds = ss′; same = same; least = leastEntry ff′ fs′ sf′ ss′ })

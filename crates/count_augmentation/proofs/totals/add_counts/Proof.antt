@@ -3,7 +3,8 @@ use mathlib.Core.Path.{ap, _∙_}
 use Prim.Native.Nat.{ℕ, _-_, _≤_, _<_}
 use native.Mathlib.Omega.{arith}
 use lib.ListN.{length, getD}
-use Rattle.count_augmentation.specs.Pairs.{reachedPairs}
+use Rattle.count_augmentation.specs.Pairs.{lookedUpPairs}
+use Rattle.count_augmentation.proofs.Laws.Pairs.{all-reached}
 use Rattle.prepare.proofs.Laws.Totals.{AddedTo, nothing-added, one-added, all-added}
 use borrow.Author.Needs.{needs}
 use Rattle.count_augmentation.proofs.totals.add_counts.Statement.{statement}
@@ -11,7 +12,7 @@ use Rattle.count_augmentation.proofs.totals.add_counts.Tie as tie
 
 abbrev Inv-loop : tie.InvT-loop
 Inv-loop g from-offsets offsets near-first near-second thresholds totals₀ all k₀ totals k =
-    (k ≤ length thresholds) × AddedTo (λ j. reachedPairs g (getD thresholds j 0) from-offsets offsets) totals₀ k totals
+    (k ≤ length thresholds) × AddedTo (λ j. lookedUpPairs g (getD thresholds j 0) from-offsets offsets near-first near-second) totals₀ k totals
 
 abbrev μ-loop : tie.MeasureT-loop
 μ-loop g from-offsets offsets near-first near-second thresholds totals₀ all k₀ totals k = length thresholds - k
@@ -54,14 +55,17 @@ loop-less c = search needs
 loop-again : tie.Need-loop-again Inv-loop μ-loop
 loop-again c = (
   omega (arith, c .before .before .before .loop-test .taken),
-  one-added (c .before .before .before .before .loop .inv .1) (omega (arith, inside (c .before .before .before), c .before .before .before .before .loop .inv .1 .long)) _ (c .before .count-run .ensures .1 (c .before .before .before .before .before .before .before .before .before .before .before .before .pre .0 .stored) .0 ∙ ap (λ (t : ℕ). reachedPairs (c .before .before .before .before .before .before .before .before .before .before .before .before .args .g) t (c .before .before .before .before .before .before .before .before .before .before .before .before .args .from-offsets .now) (c .before .before .before .before .before .before .before .before .before .before .before .before .args .offsets .now)) (c .before .before .threshold-at .ensures)),
+  one-added (c .before .before .before .before .loop .inv .1) (omega (arith, inside (c .before .before .before), c .before .before .before .before .loop .inv .1 .long)) _ (c .before .count-run .ensures .0 ∙ ap (λ (t : ℕ). lookedUpPairs (c .before .before .before .before .before .before .before .before .before .before .before .before .args .g) t (c .before .before .before .before .before .before .before .before .before .before .before .before .args .from-offsets .now) (c .before .before .before .before .before .before .before .before .before .before .before .before .args .offsets .now) (c .before .before .before .before .before .before .before .before .before .before .before .before .args .near-first .now) (c .before .before .before .before .before .before .before .before .before .before .before .before .args .near-second .now)) (c .before .before .threshold-at .ensures)),
 )
 
 same-length : tie.Need-same-length Inv-loop μ-loop
 same-length c = c .before .loop .inv .1 .long
 
 returns : tie.Need-returns Inv-loop μ-loop
-returns c = all-added (c .before .loop .inv .1) _ (c .loop-test .left)
+returns c = (
+  all-added (c .before .loop .inv .1) _ (c .loop-test .left),
+  all-reached (c .before .before .before .before .before .before .before .before .before .args .thresholds .now) (c .before .before .before .before .before .before .before .before .before .pre .0) (all-added (c .before .loop .inv .1) _ (c .loop-test .left)),
+)
 
 pub add-counts-spec : {M : Type 1} → statement M
 add-counts-spec =

@@ -139,7 +139,7 @@ same-length : tie.Need-same-length
 same-length c = c .before .totals .given
 
 returns-2 : tie.Need-returns-2
-returns-2 c = runs-added (c .before .before .before .before .before .before .before .before .before .before .before .before .before .before .before .before .before .before .before .before .before .before .before .before .before .before .before .before .before .pre .0) (c .before .before .before .before .before .before .before .before .before .before .before .before .before .before .before .before .before .before .before .before .before .before .before .before .before .before .before .before .before .pre .1) (read (c .before .before .before .before .before .before .before .before .before .before .before)) _ (c .before .before .before .before .before .before .before .before .before .before .before .edge-pair .ensures) (c .before .before .add-counts .ensures)
+returns-2 c = runs-added (c .before .before .before .before .before .before .before .before .before .before .before .before .before .before .before .before .before .before .before .before .before .before .before .before .before .before .before .before .before .pre .0) (c .before .before .before .before .before .before .before .before .before .before .before .before .before .before .before .before .before .before .before .before .before .before .before .before .before .before .before .before .before .pre .1) (read (c .before .before .before .before .before .before .before .before .before .before .before)) _ (c .before .before .before .before .before .before .before .before .before .before .before .edge-pair .ensures) (c .before .before .add-counts .ensures .1)
 
 pub add-runs-spec : {M : Type 1} → statement M
 add-runs-spec =
