@@ -1,7 +1,7 @@
 -- What the loop over the arcs of one node keeps.
 use mathlib.Core.List.{List}
 use mathlib.Core.Path.{_≡_, _∙_, ap, subst}
-use Prim.Native.Nat.{ℕ, suc, _+_, _*_, _/_, _≤_, _<_}
+use Prim.Native.Nat.{ℕ, suc, _+_, _-_, _*_, _/_, _≤_, _<_}
 use native.Mathlib.Omega.{arith}
 use lib.ListN.{length, getD}
 use Rattle.model.specs.Limits.{maxNodes, maxLength}
@@ -53,6 +53,10 @@ pub begun : {net : Network} {last next : List ℕ} {source bound : ℕ} {dist fr
 begun {v = v} r f =
     let node = f .state .only-nodes v (f .so-far .reached) .to-nodes in
     record { node-small = omega (arith, r .few-nodes); in-last = omega (arith, r .linked .last-length); last-small = chain-start r v node }
+
+-- where the chain has not ended it leads to an arc
+pub an-arc : {h : ℕ} → (h ≡ 0 → ⊥) → h ≡ suc (h - 1)
+an-arc some = omega arith
 
 -- an arc's index, its edge's, the next index, and the sum that is offered to the arc's end
 pub record Reach (net : Network) (next : List ℕ) (least a : ℕ) : Type 0 where

@@ -5,7 +5,7 @@ use native.Mathlib.Omega.{arith}
 use borrow.Author.Needs.{needs}
 use lib.ListN.{length}
 use Rattle.model.specs.Network.{network}
-use Rattle.distance.proofs.Going.{Going, begun, reach, going-start, going-more, going-done, offerable}
+use Rattle.distance.proofs.Going.{Going, begun, an-arc, reach, going-start, going-more, going-done, offerable}
 use Rattle.distance.proofs.search.follow.Statement.{statement}
 use Rattle.distance.proofs.search.follow.Tie as tie
 
@@ -37,36 +37,36 @@ sub-a : tie.Need-sub-a Inv-loop μ-loop
 sub-a c = search needs
 
 tail-of-requires : tie.Need-tail-of-requires Inv-loop μ-loop
-tail-of-requires c κs = omega (arith, reach (c .before .loop .inv .0) (c .before .loop .h - 1) (omega arith))
+tail-of-requires c κs = (reach (c .before .loop .inv .0) (c .before .loop .h - 1) (an-arc (c .loop-test .taken)) .in-seconds, reach (c .before .loop .inv .0) (c .before .loop .h - 1) (an-arc (c .loop-test .taken)) .in-firsts)
 
 mul-entry : tie.Need-mul-entry Inv-loop μ-loop
-mul-entry c = omega (arith, reach (c .before .before .loop .inv .0) (c .before .before .loop .h - 1) (omega arith))
+mul-entry c = omega (arith, reach (c .before .before .loop .inv .0) (c .before .before .loop .h - 1) (an-arc (c .before .loop-test .taken)))
 
 shared-slice-read-entry : tie.Need-shared-slice-read-entry Inv-loop μ-loop
-shared-slice-read-entry c = omega (arith, reach (c .before .before .before .loop .inv .0) (c .before .before .before .loop .h - 1) (omega arith))
+shared-slice-read-entry c = reach (c .before .before .before .loop .inv .0) (c .before .before .before .loop .h - 1) (an-arc (c .before .before .loop-test .taken)) .in-lengths
 
 add-entry : tie.Need-add-entry Inv-loop μ-loop
-add-entry c = omega (arith, reach (c .before .before .before .loop .inv .0) (c .before .before .before .loop .h - 1) (omega arith))
+add-entry c = omega (arith, reach (c .before .before .before .loop .inv .0) (c .before .before .before .loop .h - 1) (an-arc (c .before .before .loop-test .taken)))
 
 offer-requires : tie.Need-offer-requires Inv-loop μ-loop
-offer-requires c κs = offerable (c .before .before .before .before .before .before .before .loop .inv .0) (c .before .before .before .before .before .before .before .loop .h - 1) (c .before .before .before .before .before .tail-of .result) (omega arith) (sym (c .before .before .before .before .before .tail-of .ensures))
+offer-requires c κs = offerable (c .before .before .before .before .before .before .before .loop .inv .0) (c .before .before .before .before .before .before .before .loop .h - 1) (c .before .before .before .before .before .tail-of .result) (an-arc (c .before .before .before .before .before .before .loop-test .taken)) (sym (c .before .before .before .before .before .tail-of .ensures))
 
 mul-h-2 : tie.Need-mul-h-2 Inv-loop μ-loop
-mul-h-2 c = omega (arith, reach (c .before .before .before .before .before .before .before .before .before .before .before .before .before .before .before .before .loop .inv .0) (c .before .before .before .before .before .before .before .before .before .before .before .before .before .before .before .before .loop .h - 1) (omega arith))
+mul-h-2 c = omega (arith, reach (c .before .before .before .before .before .before .before .before .before .before .before .before .before .before .before .before .loop .inv .0) (c .before .before .before .before .before .before .before .before .before .before .before .before .before .before .before .before .loop .h - 1) (an-arc (c .before .before .before .before .before .before .before .before .before .before .before .before .before .before .before .loop-test .taken)))
 
 shared-slice-read-h-2 : tie.Need-shared-slice-read-h-2 Inv-loop μ-loop
-shared-slice-read-h-2 c = omega (arith, reach (c .before .before .before .before .before .before .before .before .before .before .before .before .before .before .before .before .before .loop .inv .0) (c .before .before .before .before .before .before .before .before .before .before .before .before .before .before .before .before .before .loop .h - 1) (omega arith))
+shared-slice-read-h-2 c = reach (c .before .before .before .before .before .before .before .before .before .before .before .before .before .before .before .before .before .loop .inv .0) (c .before .before .before .before .before .before .before .before .before .before .before .before .before .before .before .before .before .loop .h - 1) (an-arc (c .before .before .before .before .before .before .before .before .before .before .before .before .before .before .before .before .loop-test .taken)) .in-next
 
 cast-h-2 : tie.Need-cast-h-2 Inv-loop μ-loop
-cast-h-2 c = omega (arith, reach (c .before .before .before .before .before .before .before .before .before .before .before .before .before .before .before .before .before .loop .inv .0) (c .before .before .before .before .before .before .before .before .before .before .before .before .before .before .before .before .before .loop .h - 1) (omega arith))
+cast-h-2 c = omega (arith, reach (c .before .before .before .before .before .before .before .before .before .before .before .before .before .before .before .before .before .loop .inv .0) (c .before .before .before .before .before .before .before .before .before .before .before .before .before .before .before .before .before .loop .h - 1) (an-arc (c .before .before .before .before .before .before .before .before .before .before .before .before .before .before .before .before .loop-test .taken)))
 
 loop-less : tie.Need-loop-less Inv-loop μ-loop
-loop-less c = omega (arith, reach (c .before .before .before .before .before .before .before .before .before .before .before .before .before .before .before .before .before .loop .inv .0) (c .before .before .before .before .before .before .before .before .before .before .before .before .before .before .before .before .before .loop .h - 1) (omega arith))
+loop-less c = omega (arith, reach (c .before .before .before .before .before .before .before .before .before .before .before .before .before .before .before .before .before .loop .inv .0) (c .before .before .before .before .before .before .before .before .before .before .before .before .before .before .before .before .before .loop .h - 1) (an-arc (c .before .before .before .before .before .before .before .before .before .before .before .before .before .before .before .before .loop-test .taken)))
 
 loop-again : tie.Need-loop-again Inv-loop μ-loop
 loop-again c =
     let o = c .before .before .before .before .before .before .before .before .before .offer .kept in (
-      going-more (c .before .before .before .before .before .before .before .before .before .before .before .before .before .before .before .before .before .loop .inv .0) (c .before .before .before .before .before .before .before .before .before .before .before .before .before .before .before .before .before .loop .h - 1) (c .before .before .before .before .before .before .before .before .before .before .before .before .before .before .before .tail-of .result) (omega arith) (sym (c .before .before .before .before .before .before .before .before .before .before .before .before .before .before .before .tail-of .ensures)) (c .before .before .before .before .before .before .before .before .before .offer .ensures) (o .0) (o .1 .0),
+      going-more (c .before .before .before .before .before .before .before .before .before .before .before .before .before .before .before .before .before .loop .inv .0) (c .before .before .before .before .before .before .before .before .before .before .before .before .before .before .before .before .before .loop .h - 1) (c .before .before .before .before .before .before .before .before .before .before .before .before .before .before .before .tail-of .result) (an-arc (c .before .before .before .before .before .before .before .before .before .before .before .before .before .before .before .before .loop-test .taken)) (sym (c .before .before .before .before .before .before .before .before .before .before .before .before .before .before .before .tail-of .ensures)) (c .before .before .before .before .before .before .before .before .before .offer .ensures) (o .0) (o .1 .0),
       o .0 ∙ c .before .before .before .before .before .before .before .before .before .before .before .before .before .before .before .before .before .loop .inv .1,
       o .1 .0 ∙ c .before .before .before .before .before .before .before .before .before .before .before .before .before .before .before .before .before .loop .inv .2,
       o .1 .1 .0 ∙ c .before .before .before .before .before .before .before .before .before .before .before .before .before .before .before .before .before .loop .inv .3,
