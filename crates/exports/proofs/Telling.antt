@@ -24,7 +24,7 @@ use Rattle.layout.specs.Layout.{LaidOut}
 use Rattle.distance.specs.Answers.{rowCheck, RowAnswered, tableCheck, TableAnswered}
 use Rattle.prepare.specs.Counts.{countsCheck, CountsAnswered}
 use Rattle.count_augmentation.specs.Augmented.{augmentCheck, Augmented}
-use Rattle.neighbor_sharing.specs.Answers.{cursorsCheck, CursorsAnswered}
+use Rattle.sweep.specs.Answers.{cursorsCheck, CursorsAnswered}
 use Rattle.reading.specs.Answers.{listAnswer}
 use Rattle.threshold_reader.specs.Answers.{thresholdTextCheck, textThresholds, ThresholdsRead}
 use Rattle.event_reader.specs.Answers.{eventTextCheck, textRows, EventsRead}

@@ -1,7 +1,7 @@
 // What two of the methods count from, of one laid-out set: stored numbers and cursors.
 ghost use Rattle.model.specs.Network.{network};
 ghost use Rattle.count_augmentation.specs.Augmented.{augmentCheck, Augmented};
-ghost use Rattle.neighbor_sharing.specs.Answers.{cursorsCheck, CursorsAnswered};
+ghost use Rattle.sweep.specs.Answers.{cursorsCheck, CursorsAnswered};
 ghost use Rattle.exports.specs.Told.{Told};
 use crate::told;
 
@@ -57,7 +57,7 @@ pub extern "C" fn kc_cursors(
     ensures { λ _. ⌜ Told (cursorsCheck (network nodes (now (firsts .entry)) (now (seconds .entry)) (now (lengths .entry))) (now (edges .entry)) (now (offsets .entry)) edge1 edge2 (now (positions .entry)) (now (moves .entry))) (now (number .exit)) (now (place .exit)) ⌝ }
     ensures { λ _. ⌜ CursorsAnswered (network nodes (now (firsts .entry)) (now (seconds .entry)) (now (lengths .entry))) (now (edges .entry)) (now (offsets .entry)) edge1 edge2 threshold bound (now (positions .entry)) (now (moves .entry)) (cursorsCheck (network nodes (now (firsts .entry)) (now (seconds .entry)) (now (lengths .entry))) (now (edges .entry)) (now (offsets .entry)) edge1 edge2 (now (positions .entry)) (now (moves .entry))) (now (positions .exit)) (now (moves .exit)) ⌝ }
 {
-    let answer = neighbor_sharing::cursors(
+    let answer = sweep::cursors(
         nodes,
         firsts,
         seconds,

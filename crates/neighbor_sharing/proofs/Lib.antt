@@ -1,2 +1,2 @@
--- The laws of cursors, which the claims above cite, and facts that belong to no one function.
+-- Facts about what the six cursors count, which belong to no one function.
 pub mod Laws

@@ -8,10 +8,10 @@ use lib.ListN.{length, getD}
 use Rattle.model.specs.Counting.{sumBelow, countIf, covered}
 use Rattle.model.specs.Distance.{difference}
 use Rattle.model.specs.Location.{Side, at-first, at-second, gap, reaches}
-use Rattle.neighbor_sharing.specs.Six.{distanceBetween}
+use Rattle.sweep.specs.Ends.{distanceBetween}
 use Rattle.neighbor_sharing.specs.Stands.{standsAt}
 use Rattle.neighbor_sharing.specs.declared.moving.Stands.{Stands}
-use Rattle.neighbor_sharing.specs.declared.sweep.Edges.{Edges}
+use Rattle.sweep.specs.declared.sweeping.Edges.{Edges}
 
 -- how many of the n events of the second edge are reached, by where the six cursors stand: the first ones by the two routes that
 -- arrive at its first end, the last ones by those that arrive at its second, and the window

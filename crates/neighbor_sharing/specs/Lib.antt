@@ -1,10 +1,4 @@
--- The cursors of the sweep (01: marks), and what the public functions promise of them.
-pub mod Cursors
-pub mod Sweeping
-pub mod Answers
-pub mod Six
-pub mod Asked
-pub mod OneWay
+-- What the inner functions ask and promise of the six cursors of two edges, and of what they count.
 pub mod Stands
 pub mod Joined
 pub mod Runs

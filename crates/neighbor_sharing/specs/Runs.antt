@@ -4,7 +4,7 @@ use Prim.Native.Nat.{ℕ}
 use lib.Dec.{eqb}
 use Rattle.model.specs.Network.{Network, first, second, size}
 use Rattle.prepare.specs.Prepared.{entry}
-use Rattle.neighbor_sharing.specs.declared.sweep.Edges.{Edges}
+use Rattle.sweep.specs.declared.sweeping.Edges.{Edges}
 
 -- two edges, by their indices, with the table entries between their ends
 unfoldable pub tableEdges : Network → List ℕ → ℕ → ℕ → Edges

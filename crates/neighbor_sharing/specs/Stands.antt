@@ -4,12 +4,12 @@ use mathlib.Core.List.{List}
 use Prim.Native.Nat.{ℕ, _≤_}
 use lib.ListN.{length}
 use Rattle.model.specs.Location.{Side, at-first, at-second}
-use Rattle.neighbor_sharing.specs.Cursors.{position, below, upTo, rest}
-use Rattle.neighbor_sharing.specs.Six.{distanceBetween}
+use Rattle.sweep.specs.Cursors.{position, below, upTo, rest}
+use Rattle.sweep.specs.Ends.{distanceBetween}
 use Rattle.prepare.specs.Offsets.{Ordered}
-use Rattle.neighbor_sharing.specs.Sweeping.{Passes}
+use Rattle.sweep.specs.Sweeping.{Passes}
 use Rattle.neighbor_sharing.specs.declared.moving.Stands.{Stands}
-use Rattle.neighbor_sharing.specs.declared.sweep.Edges.{Edges}
+use Rattle.sweep.specs.declared.sweeping.Edges.{Edges}
 
 -- a route's cursor
 unfoldable pub routeStand : ℕ → Edges → Side → Side → List ℕ → ℕ → ℕ

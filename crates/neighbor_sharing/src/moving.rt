@@ -1,15 +1,16 @@
 // Where the six cursors of two edges stand at an offset of the first, moved on from where they stood before.
-use crate::cursor::Cursor;
-use crate::cursor::advance;
-use crate::cursor::below;
-use crate::cursor::route_or_none;
-use crate::cursor::up_to;
-use crate::sweep::Edges;
-use crate::sweep::code_between;
+use sweep::Cursor;
+use sweep::Edges;
+use sweep::advance;
+use sweep::below;
+use sweep::code_between;
+use sweep::route_or_none;
+use sweep::up_to;
 ghost use mathlib.Core.Bool.{cond};
 ghost use mathlib.Core.Path.{_≡_};
 ghost use Rattle.neighbor_sharing.specs.Stands.{routeStand, standsAt, standsAtRest, RouteMovable, StandsMovable};
-ghost use Rattle.neighbor_sharing.specs.Sweeping.{sideOf, standing, Movable};
+ghost use Rattle.sweep.specs.Moving.{sideOf};
+ghost use Rattle.sweep.specs.Sweeping.{standing, Movable};
 
 // The positions (01) of the four routes' cursors, from the first edge's ends to the second's, and of the window's two. In the
 // place of a route beyond the bound is a cursor that reaches nothing, and on two edges there is no window: both count 0 at every event.

@@ -2,8 +2,8 @@
 use crate::joining::joined_of;
 use crate::moving::at_rest;
 use crate::moving::move_to;
-use crate::sweep::Edges;
 use model::lesser;
+use sweep::Edges;
 ghost use mathlib.Core.Bool.{false};
 ghost use mathlib.Core.Path.{_≡_};
 ghost use Prim.Native.Nat.{ℕ, pred, _+_, _*_, _≤_, _<_};
@@ -14,7 +14,8 @@ ghost use Rattle.model.specs.Network.{network};
 ghost use Rattle.prepare.specs.EndTable.{EndTable, TableEntry};
 ghost use Rattle.neighbor_sharing.specs.Joined.{reachedPairs, sweptSum, Beyond};
 ghost use Rattle.neighbor_sharing.specs.Runs.{tableEdges};
-ghost use Rattle.neighbor_sharing.specs.Six.{decoded, EdgesLaid};
+ghost use Rattle.sweep.specs.Ends.{decoded};
+ghost use Rattle.sweep.specs.Six.{EdgesLaid};
 
 // The table entry of two nodes.
 fn entry(nodes: u32, table: &[u32], u: u32, v: u32) -> u32

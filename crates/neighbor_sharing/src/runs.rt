@@ -2,7 +2,7 @@
 use crate::pairs::count_within;
 use crate::pairs::nearest;
 use crate::pairs::table_edges;
-use crate::sweep::Edges;
+use sweep::Edges;
 ghost use mathlib.Core.Path.{_≡_};
 ghost use Prim.Native.Nat.{suc, _≤_, _<_};
 ghost use lib.ListN.{length, getD};
@@ -10,7 +10,7 @@ ghost use Rattle.model.specs.Network.{network};
 ghost use Rattle.prepare.specs.RunPairs.{runPairs};
 ghost use Rattle.prepare.specs.Totals.{Steps, ReadyAt, UpTo, AddedAt, EarlierAdded, Totalled};
 ghost use Rattle.neighbor_sharing.specs.Joined.{reachedPairs, Beyond};
-ghost use Rattle.neighbor_sharing.specs.Six.{EdgesLaid};
+ghost use Rattle.sweep.specs.Six.{EdgesLaid};
 
 // An entry of a list as a place.
 pub(crate) fn place(list: &[u32], k: usize) -> usize

@@ -15,8 +15,8 @@ use Rattle.model.specs.PairCount.{CountsJoined}
 use Rattle.model.specs.Refusal.{orElse, unless, badSet}
 use Rattle.model.specs.declared.check.Check.{Check}
 use Rattle.model.specs.declared.check.Check.the-variants.{Accepted, Refused}
-use Rattle.neighbor_sharing.specs.Answers.{cursorPositions, cursorMoves}
-use Rattle.neighbor_sharing.specs.OneWay.{MovesOneWay}
+use Rattle.sweep.specs.Answers.{cursorPositions, cursorMoves}
+use Rattle.sweep.specs.OneWay.{MovesOneWay}
 use Rattle.prepare.specs.Counts.{countsCheck, countTable}
 use Rattle.prepare.specs.Prepared.{laidOutSet, greatest}
 

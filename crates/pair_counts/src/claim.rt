@@ -5,7 +5,7 @@ ghost use lib.ListN.{length, getD};
 ghost use Rattle.model.specs.Network.{network};
 ghost use Rattle.pair_counts.specs.Asked.{BoundAsked, SweepAsked, Counted, boundOf, setPart};
 ghost use Rattle.pair_counts.specs.Claim.{PairCountsAnswered};
-ghost use Rattle.neighbor_sharing.specs.Answers.{CursorsAnswered};
+ghost use Rattle.sweep.specs.Answers.{CursorsAnswered};
 ghost use Rattle.prepare.specs.Prepared.{greatest};
 use crate::verdict::check_asked;
 use crate::verdict::check_room;
@@ -113,7 +113,7 @@ fn sweep_asked(
     let s = set as usize;
     let start = set_bound(set_runs, bounds, exists, s);
     let end = set_bound(set_runs, bounds, exists, s + 1);
-    neighbor_sharing::cursors(
+    sweep::cursors(
         nodes,
         firsts,
         seconds,

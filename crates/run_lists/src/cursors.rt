@@ -6,7 +6,7 @@ use crate::lists::list;
 use crate::lists::room;
 
 fn into(lists: &[u32], positions: &mut [u32], moves: &mut [u32]) {
-    let check = neighbor_sharing::cursors(
+    let check = sweep::cursors(
         entry(lists, 1),
         list(lists, 1),
         list(lists, 2),

@@ -9,18 +9,12 @@ use borrow.Author.Tests.{lt-leb}
 use lib.ListN.{length}
 use Rattle.model.proofs.Laws.Counting.{sum-below-zero}
 use Rattle.model.proofs.Laws.Cover.{none-pass}
-use Rattle.model.specs.Distance.{Distance, metres, none, code, plus, within}
+use Rattle.model.specs.Distance.{Distance, plus, within}
 use Rattle.model.specs.Location.{Side, at-first, at-second, gap, reaches}
-use Rattle.neighbor_sharing.proofs.Laws.Positions.{reaches-less}
+use Rattle.sweep.proofs.Laws.Positions.{reaches-less}
 use Rattle.neighbor_sharing.specs.Joined.{reachedBy, isReached, reachedPairs, Beyond}
-use Rattle.neighbor_sharing.specs.Six.{decoded, codeBetween, distanceBetween}
-use Rattle.neighbor_sharing.specs.declared.sweep.Edges.{Edges}
-
--- a code stands for the distance that it was made of
-pub decoded-code : (d : Distance) → decoded (code d) ≡ d
-unfolding decoded code
-decoded-code none = refl
-decoded-code (metres n) = refl
+use Rattle.sweep.specs.Ends.{decoded, codeBetween, distanceBetween}
+use Rattle.sweep.specs.declared.sweeping.Edges.{Edges}
 
 -- two edges with equal entries
 pub same-edges : {p q : ℕ} {same : Bool} {ff fs sf ss ff′ fs′ sf′ ss′ : ℕ} → ff ≡ ff′ → fs ≡ fs′ → sf ≡ sf′ → ss ≡ ss′ → _≡_ {A = Edges} (record { long1 = p; long2 = q; same = same; ff = ff; fs = fs; sf = sf; ss = ss }) (record { long1 = p; long2 = q; same = same; ff = ff′; fs = fs′; sf = sf′; ss = ss′ })

@@ -15,14 +15,14 @@ use Rattle.model.proofs.Laws.Arrival.{below-max, from-max, by-arrival, in-windo
 use Rattle.model.proofs.Laws.Counting.{count-cong, count-mono, sum-below-cong}
 use Rattle.model.proofs.Laws.Cover.{cover-list, first-places}
 use Rattle.model.proofs.Laws.Routes.{some-route}
-use Rattle.neighbor_sharing.proofs.Laws.Nearest.{Down, first-reached, second-reached}
-use Rattle.neighbor_sharing.proofs.Laws.Positions.{reaches-less}
-use Rattle.neighbor_sharing.specs.Cursors.{position, below, upTo}
+use Rattle.sweep.proofs.Laws.Nearest.{Down, first-reached, second-reached}
+use Rattle.sweep.proofs.Laws.Positions.{reaches-less}
+use Rattle.sweep.specs.Cursors.{position, below, upTo}
 use Rattle.neighbor_sharing.specs.Joined.{joinedOf, joinedFrom, sweptSum, reachedBy, isReached, reachedPairs}
-use Rattle.neighbor_sharing.specs.Six.{distanceBetween}
+use Rattle.sweep.specs.Ends.{distanceBetween}
 use Rattle.neighbor_sharing.specs.Stands.{routeStand, standsAt}
 use Rattle.prepare.specs.Offsets.{Ordered}
-use Rattle.neighbor_sharing.specs.declared.sweep.Edges.{Edges}
+use Rattle.sweep.specs.declared.sweeping.Edges.{Edges}
 
 module _ (t p x q : ℕ) (d : Side → Side → Distance) (ys : List ℕ) (o : Ordered ys) where
   abbrev at : Side → Side → ℕ

@@ -22,11 +22,13 @@ use Rattle.prepare.specs.RunPairs.{edgeOf, partOf, runPairs, RunsReady}
 use Rattle.prepare.specs.Totals.{Steps, ReadyAt, AddedAt}
 use Rattle.prepare.proofs.Laws.RunPairs.{TwoRead, run-is, run-codes}
 use Rattle.prepare.proofs.Laws.Totals.{to-greatest}
-use Rattle.neighbor_sharing.proofs.Laws.Apart.{decoded-code, no-pairs}
+use Rattle.neighbor_sharing.proofs.Laws.Apart.{no-pairs}
+use Rattle.sweep.proofs.Laws.Kinds.{decoded-code}
 use Rattle.neighbor_sharing.specs.Joined.{reachedBy, isReached, reachedPairs, Beyond}
 use Rattle.neighbor_sharing.specs.Runs.{tableEdges}
-use Rattle.neighbor_sharing.specs.Six.{decoded, codeBetween, distanceBetween, Laid, EdgesLaid}
-use Rattle.neighbor_sharing.specs.declared.sweep.Edges.{Edges}
+use Rattle.sweep.specs.Ends.{decoded, codeBetween, distanceBetween}
+use Rattle.sweep.specs.Six.{Laid, EdgesLaid}
+use Rattle.sweep.specs.declared.sweeping.Edges.{Edges}
 
 -- the codes of two edges are the table's entries
 codes-are : (net : Network) (table : List ℕ) (i j : ℕ) (s s′ : Side) → codeBetween (tableEdges net table i j) s s′ ≡ entry net table (endNode net i s) (endNode net j s′)

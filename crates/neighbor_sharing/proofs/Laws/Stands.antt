@@ -9,44 +9,50 @@ use Rattle.model.specs.Limits.{maxEvents, maxPairs}
 use Rattle.model.specs.Counting.{sumBelow}
 use Rattle.model.specs.Location.{Side, at-first, at-second}
 use Rattle.model.proofs.Laws.Counting.{sum-next}
-use Rattle.neighbor_sharing.proofs.Laws.Kinds.{route-or-none-standing, route-or-none-falling, below-standing, up-to-standing}
-use Rattle.neighbor_sharing.proofs.Laws.Moving.{at-most}
-use Rattle.neighbor_sharing.proofs.Laws.OneWay.{rest-in, from-rest}
-use Rattle.neighbor_sharing.proofs.Laws.Positions.{position-on, position-in, below-on, up-to-on}
-use Rattle.neighbor_sharing.specs.Cursors.{position, below, upTo, rest}
+use Rattle.sweep.proofs.Laws.Kinds.{route-or-none-standing, route-or-none-falling, below-standing, up-to-standing}
+use Rattle.sweep.proofs.Laws.Moving.{at-most, moved-on-stands}
+use Rattle.sweep.proofs.Laws.OneWay.{rest-in, from-rest}
+use Rattle.sweep.proofs.Laws.Positions.{position-on, position-in, below-on, up-to-on}
+use Rattle.sweep.specs.Cursors.{position, below, upTo, rest}
 use Rattle.neighbor_sharing.specs.Joined.{joinedOf, joinedFrom, sweptSum}
-use Rattle.neighbor_sharing.specs.Six.{decoded, codeBetween, distanceBetween, EdgesLaid}
+use Rattle.sweep.specs.Ends.{decoded, codeBetween, distanceBetween}
+use Rattle.sweep.specs.Six.{EdgesLaid}
 use Rattle.neighbor_sharing.specs.Stands.{routeStand, standsAt, standsAtRest, standOf, RouteMovable, StandsMovable}
 use Rattle.prepare.specs.Offsets.{Ordered}
-use Rattle.neighbor_sharing.specs.Sweeping.{sideOf, standing, routeOrNone, belowCursor, upToCursor, Small, Movable}
-use Rattle.neighbor_sharing.specs.declared.cursor.Cursor.{Cursor}
+use Rattle.sweep.specs.Moving.{sideOf, movedOn, routeOrNone, belowCursor, upToCursor}
+use Rattle.sweep.specs.Sweeping.{standing, Movable}
+use Rattle.sweep.specs.declared.cursor.Cursor.{Cursor}
 use Rattle.neighbor_sharing.specs.declared.moving.Stands.{Stands}
-use Rattle.neighbor_sharing.specs.declared.sweep.Edges.{Edges}
+use Rattle.sweep.specs.declared.sweeping.Edges.{Edges}
 
 module _ (t : ℕ) (w : Edges) (ys : List ℕ) (x : ℕ) where
   -- the cursor of a route
   module _ (first1 first2 : Bool) (code : ℕ) (c : Cursor) (told : code ≡ codeBetween w (sideOf first1) (sideOf first2)) (made : c ≡ routeOrNone t (w .long1) first1 code first2) where
-    pub route-stands : x ≤ w .long1 → standing c (w .long2) ys x ≡ routeStand t w (sideOf first1) (sideOf first2) ys x
+    route-stands : x ≤ w .long1 → standing c (w .long2) ys x ≡ routeStand t w (sideOf first1) (sideOf first2) ys x
     unfolding routeStand distanceBetween
     route-stands h =
         ap (λ (k : Cursor). standing k (w .long2) ys x) made
         ∙ route-or-none-standing t (w .long1) (w .long2) code first1 first2 ys x h
         ∙ ap (λ (k : ℕ). position t (w .long1) (sideOf first1) (decoded k) (w .long2) (sideOf first2) ys x) told
 
-    pub route-can : Small c → {from : ℕ} → RouteMovable t w (sideOf first1) (sideOf first2) ys x from → Movable c (w .long2) ys x from
-    route-can small asked =
+    route-can : {from : ℕ} → RouteMovable t w (sideOf first1) (sideOf first2) ys x from → Movable c (w .long2) ys x from
+    route-can asked =
         record {
-          small = small;
           ordered = asked .ordered;
           position-in = asked .from-in;
           onward = rw (route-stands (asked .on-edge), ap (λ (k : Cursor). k .falling) made ∙ route-or-none-falling t (w .long1) first1 code first2) (asked .onward);
         }
 
+    -- moved on, it comes to stand where the route's does
+    pub route-moved : {from r : ℕ} → RouteMovable t w (sideOf first1) (sideOf first2) ys x from → r ≡ movedOn c (w .long2) ys x from → r ≡ routeStand t w (sideOf first1) (sideOf first2) ys x
+    route-moved asked moved =
+        moved ∙ moved-on-stands c (w .long2) ys x (route-can asked) ∙ route-stands (asked .on-edge)
+
   -- a cursor of the window
-  rising-can : (c : Cursor) → c .falling ≡ false → Small c → Ordered ys → (q from to : ℕ) → standing c q ys x ≡ to → from ≤ to → Movable c q ys x from
+  rising-can : (c : Cursor) → c .falling ≡ false → Ordered ys → (q from to : ℕ) → standing c q ys x ≡ to → from ≤ to → Movable c q ys x from
   unfolding sideOf
-  rising-can c up small o q from to e h =
-      record { small = small; ordered = o; position-in = omega (arith, at-most c q ys x); onward = rw (e, up) h }
+  rising-can c up o q from to e h =
+      record { ordered = o; position-in = omega (arith, at-most c q ys x); onward = rw (e, up) h }
 
   low-stands : {c : Cursor} → c ≡ belowCursor t → (q : ℕ) → standing c q ys x ≡ below t ys x
   low-stands made q = ap (λ (k : Cursor). standing k q ys x) made ∙ below-standing t q ys x
@@ -54,15 +60,15 @@ module _ (t : ℕ) (w : Edges) (ys : List ℕ) (x : ℕ) where
   high-stands : {c : Cursor} → c ≡ upToCursor t → (q : ℕ) → standing c q ys x ≡ upTo t ys x
   high-stands made q = ap (λ (k : Cursor). standing k q ys x) made ∙ up-to-standing t q ys x
 
-  pub low-can : {c : Cursor} → c ≡ belowCursor t → Small c → {from : Stands} → StandsMovable t w ys x from → Movable c (w .long2) ys x (from .low)
+  pub low-can : {c : Cursor} → c ≡ belowCursor t → {from : Stands} → StandsMovable t w ys x from → Movable c (w .long2) ys x (from .low)
   unfolding belowCursor
-  low-can {c} made small asked =
-      rising-can c (ap (λ (k : Cursor). k .falling) made) small (asked .ordered) (w .long2) _ _ (low-stands made (w .long2)) (asked .low-on)
+  low-can {c} made asked =
+      rising-can c (ap (λ (k : Cursor). k .falling) made) (asked .ordered) (w .long2) _ _ (low-stands made (w .long2)) (asked .low-on)
 
-  pub high-can : {c : Cursor} → c ≡ upToCursor t → Small c → {from : Stands} → StandsMovable t w ys x from → Movable c (w .long2) ys x (from .high)
+  pub high-can : {c : Cursor} → c ≡ upToCursor t → {from : Stands} → StandsMovable t w ys x from → Movable c (w .long2) ys x (from .high)
   unfolding upToCursor
-  high-can {c} made small asked =
-      rising-can c (ap (λ (k : Cursor). k .falling) made) small (asked .ordered) (w .long2) _ _ (high-stands made (w .long2)) (asked .high-on)
+  high-can {c} made asked =
+      rising-can c (ap (λ (k : Cursor). k .falling) made) (asked .ordered) (w .long2) _ _ (high-stands made (w .long2)) (asked .high-on)
 
   -- all six
   pub all-stand : {lower upper : Cursor} → lower ≡ belowCursor t → upper ≡ upToCursor t → {ff fs sf ss low high : ℕ} → ff ≡ routeStand t w at-first at-first ys x → fs ≡ routeStand t w at-first at-second ys x → sf ≡ routeStand t w at-second at-first ys x → ss ≡ routeStand t w at-second at-second ys x → low ≡ cond (w .same) (standing lower (w .long2) ys x) 0 → high ≡ cond (w .same) (standing upper (w .long2) ys x) 0 → _≡_ {A = Stands} (record { ff = ff; fs = fs; sf = sf; ss = ss; low = low; high = high }) (standsAt t w ys x)

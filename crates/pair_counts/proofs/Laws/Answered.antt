@@ -19,9 +19,9 @@ use Rattle.model.specs.Network.{Network}
 use Rattle.model.specs.declared.check.Check.{Check}
 use Rattle.model.specs.declared.check.Check.the-variants.{Accepted, Refused}
 use Rattle.model.proofs.Laws.Refusal.{not-accepted}
-use Rattle.neighbor_sharing.proofs.Laws.Claim.{moves-one-way}
-use Rattle.neighbor_sharing.specs.Answers.{marked, markedIf, routeMoves, cursorsCheck, cursorPositions, cursorMoves, CursorsAnswered}
-use Rattle.neighbor_sharing.specs.OneWay.{MovesOneWay}
+use Rattle.sweep.proofs.Laws.Claim.{moves-one-way}
+use Rattle.sweep.specs.Answers.{marked, markedIf, routeMoves, cursorsCheck, cursorPositions, cursorMoves, CursorsAnswered}
+use Rattle.sweep.specs.OneWay.{MovesOneWay}
 use Rattle.prepare.proofs.Laws.InRuns.{set-runs-rise}
 use Rattle.prepare.proofs.Laws.Verdict.{CountsAccepted, counts-accepted}
 use Rattle.prepare.specs.Counts.{countsCheck, countTable, CountsAnswered}

@@ -21,7 +21,7 @@ use Rattle.model.specs.Network.{Network}
 use Rattle.model.specs.PairCount.{eventAt}
 use Rattle.model.specs.Refusal.{orElse}
 use Rattle.model.specs.declared.check.Check.the-variants.{Accepted}
-use Rattle.neighbor_sharing.specs.Answers.{cursorsCheck}
+use Rattle.sweep.specs.Answers.{cursorsCheck}
 use Rattle.prepare.proofs.Laws.Groups.{having-events, having-length}
 use Rattle.prepare.proofs.Laws.InRuns.{in-order-at}
 use Rattle.prepare.proofs.Laws.LaidEvents.{laid-is-event}

@@ -1,7 +1,7 @@
 -- Each of the six by itself.
 use Rattle.model.specs.Location.{at-first, at-second}
 use Rattle.neighbor_sharing.specs.Stands.{standOf}
-use Rattle.neighbor_sharing.specs.Sweeping.{sideOf}
+use Rattle.sweep.specs.Moving.{sideOf}
 use Rattle.neighbor_sharing.proofs.Laws.Stands.{low-can, high-can, all-stand}
 use borrow.Author.Needs.{needs}
 use Rattle.neighbor_sharing.proofs.moving.move_to.Statement.{statement}
@@ -27,19 +27,19 @@ below-requires : tie.Need-below-requires
 below-requires c κs = search needs
 
 window-to-requires : tie.Need-window-to-requires
-window-to-requires c κs = low-can _ _ _ _ (c .below .ensures .0) (c .below .ensures .1) (c .before .before .before .before .before .before .pre)
+window-to-requires c κs = low-can _ _ _ _ (c .below .ensures) (c .before .before .before .before .before .before .pre)
 
 up-to-requires : tie.Need-up-to-requires
 up-to-requires c κs = search needs
 
 window-to-requires-2 : tie.Need-window-to-requires-2
-window-to-requires-2 c κs = high-can _ _ _ _ (c .up-to .ensures .0) (c .up-to .ensures .1) (c .before .before .before .before .before .before .before .before .pre)
+window-to-requires-2 c κs = high-can _ _ _ _ (c .up-to .ensures) (c .before .before .before .before .before .before .before .before .pre)
 
 returns : tie.Need-returns
 unfolding sideOf
 returns c =
     let a = c .before .before .before .before .before .before .before .before .before .args in
-    all-stand (a .threshold) (a .edges) (a .ys .now) (a .x) (c .before .before .before .below .ensures .0) (c .before .up-to .ensures .0) (c .before .before .before .before .before .before .before .route-to .ensures) (c .before .before .before .before .before .before .route-to2 .ensures) (c .before .before .before .before .before .route-to3 .ensures) (c .before .before .before .before .route-to4 .ensures) (c .before .before .window-to .ensures) (c .window-to2 .ensures)
+    all-stand (a .threshold) (a .edges) (a .ys .now) (a .x) (c .before .before .before .below .ensures) (c .before .up-to .ensures) (c .before .before .before .before .before .before .before .route-to .ensures) (c .before .before .before .before .before .before .route-to2 .ensures) (c .before .before .before .before .before .route-to3 .ensures) (c .before .before .before .before .route-to4 .ensures) (c .before .before .window-to .ensures) (c .window-to2 .ensures)
 
 pub move-to-spec : {M : Type 1} → statement M
 move-to-spec =

@@ -1,6 +1,5 @@
 -- The cursor made for the code stands where the route's does.
-use mathlib.Core.Path.{_∙_}
-use Rattle.neighbor_sharing.proofs.Laws.Stands.{route-stands, route-can}
+use Rattle.neighbor_sharing.proofs.Laws.Stands.{route-moved}
 use borrow.Author.Needs.{needs}
 use Rattle.neighbor_sharing.proofs.moving.route_to.Statement.{statement}
 use Rattle.neighbor_sharing.proofs.moving.route_to.Tie as tie
@@ -12,15 +11,12 @@ route-or-none-requires : tie.Need-route-or-none-requires
 route-or-none-requires c κs = search needs
 
 advance-requires : tie.Need-advance-requires
-advance-requires c κs =
-    let a = c .before .before .before .args in
-    route-can (a .threshold) (a .edges) (a .ys .now) (a .x) (a .first1) (a .first2) _ _ (c .before .code-between .ensures) (c .route-or-none .ensures .0) (c .route-or-none .ensures .1) (c .before .before .before .pre)
+advance-requires c κs = search needs
 
 returns : tie.Need-returns
 returns c =
     let a = c .before .before .before .before .args in
-    c .advance .ensures
-    ∙ route-stands (a .threshold) (a .edges) (a .ys .now) (a .x) (a .first1) (a .first2) _ _ (c .before .before .code-between .ensures) (c .before .route-or-none .ensures .0) (c .before .before .before .before .pre .on-edge)
+    route-moved (a .threshold) (a .edges) (a .ys .now) (a .x) (a .first1) (a .first2) _ _ (c .before .before .code-between .ensures) (c .before .route-or-none .ensures) (c .before .before .before .before .pre) (c .advance .ensures)
 
 pub route-to-spec : {M : Type 1} → statement M
 route-to-spec =

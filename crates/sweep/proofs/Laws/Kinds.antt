@@ -1,0 +1,105 @@
+-- The cursors of the six kinds stand where their definitions say.
+use mathlib.Core.Bool.{Bool, true, false}
+use mathlib.Core.List.{List, [], _∷_, _++_, map, append-nil}
+use mathlib.Core.Path.{_≡_, _∙_, refl, sym, ap, ap₂}
+use Prim.Native.Nat.{ℕ, zero, suc, _+_, _-_, _≤_, _<_}
+use native.Mathlib.Decide.{decLe, decLt}
+use native.Mathlib.Omega.{arith}
+use borrow.Author.Tests.{le-leb, lt-leb, lt-ltb, le-ltb}
+use borrow.Author.Fill.{fill-more}
+use lib.Dec.{leb, ltb}
+use lib.ListN.{length, getD, set, drop, replicate, length-append, length-replicate, drop-of-length-le}
+use Rattle.model.specs.Distance.{Distance, metres, none, code, plus, within}
+use Rattle.model.specs.Location.{gap, reaches}
+use Rattle.model.proofs.Laws.Counting.{count-cong}
+use Rattle.sweep.specs.Cursors.{position, below, upTo}
+use Rattle.sweep.specs.Ends.{decoded}
+use Rattle.sweep.specs.Moving.{sideOf, reach, routeCursor, routeOrNone, belowCursor, upToCursor}
+use Rattle.sweep.specs.Sweeping.{reached, standing}
+
+-- a code stands for the distance that it was made of
+pub decoded-code : (d : Distance) → decoded (code d) ≡ d
+unfolding decoded code
+decoded-code none = refl
+decoded-code (metres n) = refl
+
+-- what is left of the threshold for the second edge
+route-reach : (t p n x : ℕ) (falling first : Bool) → x ≤ p → reach (routeCursor t p falling (suc n) first) x ≡ suc t - (gap p (sideOf falling) x + n)
+unfolding reach routeCursor sideOf gap
+route-reach t p n x true first h = omega arith
+route-reach t p n x false first h = omega arith
+
+-- a gap below what is left is one that adds up to no more than the threshold
+left-of : (t m b : ℕ) → ltb b (suc t - m) ≡ leb (m + b) t
+left-of t m b = go (decLe (m + b) t)
+  where
+    go : Dec (m + b ≤ t) → ltb b (suc t - m) ≡ leb (m + b) t
+    go (yes h) = lt-ltb b (suc t - m) (omega arith) ∙ sym (le-leb (m + b) t h)
+    go (no h) = le-ltb b (suc t - m) (omega arith) ∙ sym (lt-leb (m + b) t (omega arith))
+
+pub route-standing : (t p q n : ℕ) (falling first : Bool) (ys : List ℕ) (x : ℕ) → x ≤ p → standing (routeCursor t p falling (suc n) first) q ys x ≡ position t p (sideOf falling) (metres n) q (sideOf first) ys x
+unfolding standing reached routeCursor position reaches plus within
+route-standing t p q n falling first ys x h =
+    count-cong _ _ ys (λ y. ap (ltb (gap q (sideOf first) y)) (route-reach t p n x falling first h) ∙ left-of t (gap p (sideOf falling) x + n) (gap q (sideOf first) y))
+
+-- where there is no route, nothing
+none-reach : (t p x : ℕ) (falling first : Bool) → x ≤ p → reach (record { falling = falling; plus = t; minus = p + (t + 1); first = first }) x ≡ 0
+unfolding reach
+none-reach t p x true first h = omega arith
+none-reach t p x false first h = omega arith
+
+pub route-or-none-standing : (t p q code : ℕ) (falling first : Bool) (ys : List ℕ) (x : ℕ) → x ≤ p → standing (routeOrNone t p falling code first) q ys x ≡ position t p (sideOf falling) (decoded code) q (sideOf first) ys x
+unfolding standing reached routeOrNone decoded position reaches plus within
+route-or-none-standing t p q zero falling first ys x h =
+    count-cong _ _ ys (λ y. ap (ltb (gap q (sideOf first) y)) (none-reach t p x falling first h) ∙ le-ltb (gap q (sideOf first) y) 0 (omega arith))
+route-or-none-standing t p q (suc n) falling first ys x h = route-standing t p q n falling first ys x h
+
+pub route-or-none-falling : (t p : ℕ) (falling : Bool) (code : ℕ) (first : Bool) → routeOrNone t p falling code first .falling ≡ falling
+unfolding routeOrNone routeCursor
+route-or-none-falling t p falling zero first = refl
+route-or-none-falling t p falling (suc n) first = refl
+
+-- which of the two is made
+pub none-made : (t p : ℕ) (falling : Bool) (code : ℕ) (first : Bool) → code ≡ 0 → record { falling = falling; plus = t; minus = p + (t + 1); first = first } ≡ routeOrNone t p falling code first
+unfolding routeOrNone
+none-made t p falling code first e = rw e refl
+
+pub some-made : (t p : ℕ) (falling : Bool) (code : ℕ) (first : Bool) → 1 ≤ code → routeCursor t p falling code first ≡ routeOrNone t p falling code first
+unfolding routeOrNone
+some-made t p falling zero first h = absurd (omega arith)
+some-made t p falling (suc n) first h = refl
+
+pub below-standing : (t q : ℕ) (ys : List ℕ) (x : ℕ) → standing (belowCursor t) q ys x ≡ below t ys x
+unfolding standing reached belowCursor reach sideOf gap below
+below-standing t q ys x = count-cong _ _ ys (λ y. go y (decLt (y + t) x))
+  where
+    go : (y : ℕ) → Dec (y + t < x) → ltb y ((x + (0 + 1)) - (t + 1)) ≡ ltb (y + t) x
+    go y (yes h) = lt-ltb y ((x + (0 + 1)) - (t + 1)) (omega arith) ∙ sym (lt-ltb (y + t) x h)
+    go y (no h) = le-ltb y ((x + (0 + 1)) - (t + 1)) (omega arith) ∙ sym (le-ltb (y + t) x (omega arith))
+
+pub up-to-standing : (t q : ℕ) (ys : List ℕ) (x : ℕ) → standing (upToCursor t) q ys x ≡ upTo t ys x
+unfolding standing reached upToCursor reach sideOf gap upTo
+up-to-standing t q ys x = count-cong _ _ ys (λ y. go y (decLe y (x + t)))
+  where
+    go : (y : ℕ) → Dec (y ≤ x + t) → ltb y ((x + (t + 1)) - 0) ≡ leb y (x + t)
+    go y (yes h) = lt-ltb y ((x + (t + 1)) - 0) (omega arith) ∙ sym (le-leb y (x + t) h)
+    go y (no h) = le-ltb y ((x + (t + 1)) - 0) (omega arith) ∙ sym (lt-leb y (x + t) (omega arith))
+
+-- lists of values that agree on every element
+pub map-agree : {B : Type 0} (f g : ℕ → B) (xs : List ℕ) → ((k : ℕ) → k < length xs → f (getD xs k 0) ≡ g (getD xs k 0)) → map f xs ≡ map g xs
+map-agree f g [] h = refl
+map-agree f g (x ∷ xs) h = ap₂ _∷_ (h 0 (omega arith)) (map-agree f g xs (λ k l. h (suc k) (omega arith)))
+
+-- one entry more is 0, and then all are
+pub zeros-more : (l old : List ℕ) (k : ℕ) → l ≡ replicate k 0 ++ drop k old → k < length old → set l k 0 ≡ replicate (k + 1) 0 ++ drop (k + 1) old
+zeros-more l old k e h = rw e (fill-more k 0 old h)
+
+pub zeros-all : (l old : List ℕ) (k : ℕ) → l ≡ replicate k 0 ++ drop k old → length l ≡ length old → length l ≤ k → l ≡ replicate (length old) 0
+zeros-all l old k e same h =
+    e
+    ∙ ap (λ (r : List ℕ). replicate k 0 ++ r) (drop-of-length-le old (rw same at h))
+    ∙ append-nil (replicate k 0)
+    ∙ ap (λ (n : ℕ). replicate n 0) {x = k} {y = length old} (zero-rest)
+  where
+    zero-rest : k ≡ length old
+    zero-rest = omega (arith, simp (length-append, length-replicate) at (ap length e))

@@ -1,0 +1,14 @@
+// Cursors: one that is moved on and never searched anew, and the sweep of the six of two edges.
+mod asked;
+mod cursor;
+mod sweeping;
+mod two_edges;
+
+pub use cursor::Cursor;
+pub use cursor::advance;
+pub use cursor::below;
+pub use cursor::route_or_none;
+pub use cursor::up_to;
+pub use sweeping::Edges;
+pub use sweeping::code_between;
+pub use two_edges::cursors;
