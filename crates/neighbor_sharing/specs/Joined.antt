@@ -1,15 +1,15 @@
 -- What the inner functions make of the six positions at an event of the first edge: cited by no public function.
 use mathlib.Core.Bool.{Bool, false, _&&_, _||_}
-use mathlib.Core.List.{List}
+use mathlib.Core.List.{List, [], _∷_}
 use mathlib.Core.Path.{_≡_}
-use Prim.Native.Nat.{ℕ, _<_, max}
+use Prim.Native.Nat.{ℕ, _+_, _<_, max}
 use lib.Dec.{leb}
 use lib.ListN.{length, getD}
 use Rattle.model.specs.Counting.{sumBelow, countIf, covered}
 use Rattle.model.specs.Distance.{difference}
 use Rattle.model.specs.Location.{Side, at-first, at-second, gap, reaches}
 use Rattle.sweep.specs.Ends.{distanceBetween}
-use Rattle.neighbor_sharing.specs.Stands.{standsAt}
+use Rattle.neighbor_sharing.specs.Stands.{standsAt, standsAtRest, standsMoved}
 use Rattle.neighbor_sharing.specs.declared.moving.Stands.{Stands}
 use Rattle.sweep.specs.declared.sweeping.Edges.{Edges}
 
@@ -22,7 +22,16 @@ joinedOf n m = covered n (max (m .ff) (m .sf)) (max (m .fs) (m .ss)) (m .low) (m
 unfoldable pub joinedFrom : ℕ → Edges → List ℕ → ℕ → ℕ
 joinedFrom t w ys x = joinedOf (length ys) (standsAt t w ys x)
 
--- the same from every event of the first edge
+-- what is reached from events of the first edge, added up, by cursors moved on from one to the next, whatever the events are
+unfoldable pub sharedFrom : ℕ → Edges → List ℕ → Stands → List ℕ → ℕ
+sharedFrom t w ys from [] = 0
+sharedFrom t w ys from (x ∷ xs) = joinedOf (length ys) (standsMoved t w ys x from) + sharedFrom t w ys (standsMoved t w ys x from) xs
+
+-- the cursors being at rest before the first
+unfoldable pub shared : ℕ → Edges → List ℕ → List ℕ → ℕ
+shared t w xs ys = sharedFrom t w ys (standsAtRest ys) xs
+
+-- the same by the positions at every event of the first edge
 unfoldable pub sweptSum : ℕ → Edges → List ℕ → List ℕ → ℕ
 sweptSum t w xs ys = sumBelow (length xs) (λ i. joinedFrom t w ys (getD xs i 0))
 

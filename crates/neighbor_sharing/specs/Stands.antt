@@ -1,11 +1,12 @@
 -- Where the six cursors of two edges stand at an offset of the first, and what moving them there takes: cited by no public function.
-use mathlib.Core.Bool.{cond}
+use mathlib.Core.Bool.{Bool, true, false, cond}
 use mathlib.Core.List.{List}
 use Prim.Native.Nat.{ℕ, _≤_}
 use lib.ListN.{length}
 use Rattle.model.specs.Location.{Side, at-first, at-second}
 use Rattle.sweep.specs.Cursors.{position, below, upTo, rest}
-use Rattle.sweep.specs.Ends.{distanceBetween}
+use Rattle.sweep.specs.Ends.{codeBetween, distanceBetween}
+use Rattle.sweep.specs.Moving.{sideOf, movedOn, routeOrNone, belowCursor, upToCursor}
 use Rattle.prepare.specs.Offsets.{Ordered}
 use Rattle.sweep.specs.Sweeping.{Passes}
 use Rattle.neighbor_sharing.specs.declared.moving.Stands.{Stands}
@@ -25,6 +26,23 @@ standsAt t w ys x =
       ss = routeStand t w at-second at-second ys x;
       low = cond (w .same) (below t ys x) 0;
       high = cond (w .same) (upTo t ys x) 0;
+    }
+
+-- a route's cursor, moved on to the offset x from any position
+unfoldable pub routeMoved : ℕ → Edges → Bool → Bool → List ℕ → ℕ → ℕ → ℕ
+routeMoved t w first1 first2 ys x from =
+    movedOn (routeOrNone t (w .long1) first1 (codeBetween w (sideOf first1) (sideOf first2)) first2) (w .long2) ys x from
+
+-- all six, each from where it stood
+unfoldable pub standsMoved : ℕ → Edges → List ℕ → ℕ → Stands → Stands
+standsMoved t w ys x from =
+    record {
+      ff = routeMoved t w true true ys x (from .ff);
+      fs = routeMoved t w true false ys x (from .fs);
+      sf = routeMoved t w false true ys x (from .sf);
+      ss = routeMoved t w false false ys x (from .ss);
+      low = cond (w .same) (movedOn (belowCursor t) (w .long2) ys x (from .low)) 0;
+      high = cond (w .same) (movedOn (upToCursor t) (w .long2) ys x (from .high)) 0;
     }
 
 -- before the first event

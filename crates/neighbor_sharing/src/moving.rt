@@ -8,9 +8,8 @@ use sweep::route_or_none;
 use sweep::up_to;
 ghost use mathlib.Core.Bool.{cond};
 ghost use mathlib.Core.Path.{_≡_};
-ghost use Rattle.neighbor_sharing.specs.Stands.{routeStand, standsAt, standsAtRest, RouteMovable, StandsMovable};
-ghost use Rattle.sweep.specs.Moving.{sideOf};
-ghost use Rattle.sweep.specs.Sweeping.{standing, Movable};
+ghost use Rattle.neighbor_sharing.specs.Stands.{routeMoved, standsMoved, standsAtRest};
+ghost use Rattle.sweep.specs.Moving.{movedOn};
 
 // The positions (01) of the four routes' cursors, from the first edge's ends to the second's, and of the window's two. In the
 // place of a route beyond the bound is a cursor that reaches nothing, and on two edges there is no window: both count 0 at every event.
@@ -47,8 +46,7 @@ fn route_to(
     x: u32,
     from: usize,
 ) -> usize
-    requires { ⌜ RouteMovable threshold edges (sideOf first1) (sideOf first2) (now ys) x from ⌝ }
-    ensures { λ r. ⌜ r ≡ routeStand threshold edges (sideOf first1) (sideOf first2) (now (ys .entry)) x ⌝ }
+    ensures { λ r. ⌜ r ≡ routeMoved threshold edges first1 first2 (now (ys .entry)) x from ⌝ }
 {
     let code = code_between(edges, first1, first2);
     let cursor = route_or_none(threshold, edges.long1, first1, code, first2);
@@ -57,8 +55,7 @@ fn route_to(
 
 // The same for a cursor of the window. On two edges there is none, which counts as position 0.
 fn window_to(same: bool, cursor: Cursor, ys: &[u32], long: u32, x: u32, from: usize) -> usize
-    requires { ⌜ Movable cursor long (now ys) x from ⌝ }
-    ensures { λ r. ⌜ r ≡ cond same (standing cursor long (now (ys .entry)) x) 0 ⌝ }
+    ensures { λ r. ⌜ r ≡ cond same (movedOn cursor long (now (ys .entry)) x from) 0 ⌝ }
 {
     if !same {
         return 0;
@@ -66,10 +63,9 @@ fn window_to(same: bool, cursor: Cursor, ys: &[u32], long: u32, x: u32, from: us
     advance(cursor, ys, long, x, from)
 }
 
-// All six.
+// All six, each on from where it stood.
 pub(crate) fn move_to(threshold: u32, edges: Edges, ys: &[u32], x: u32, from: Stands) -> Stands
-    requires { ⌜ StandsMovable threshold edges (now ys) x from ⌝ }
-    ensures { λ r. ⌜ r ≡ standsAt threshold edges (now (ys .entry)) x ⌝ }
+    ensures { λ r. ⌜ r ≡ standsMoved threshold edges (now (ys .entry)) x from ⌝ }
 {
     let ff = route_to(threshold, edges, true, true, ys, x, from.ff);
     let fs = route_to(threshold, edges, true, false, ys, x, from.fs);

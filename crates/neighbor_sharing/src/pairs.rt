@@ -8,11 +8,11 @@ ghost use mathlib.Core.Bool.{false};
 ghost use mathlib.Core.Path.{_≡_};
 ghost use Prim.Native.Nat.{ℕ, pred, _+_, _*_, _≤_, _<_};
 ghost use lib.ListN.{length, getD};
-ghost use Rattle.model.specs.Limits.{maxPairs};
+ghost use Rattle.model.specs.Limits.{maxEvents, maxPairs};
 ghost use Rattle.model.specs.Location.{reaches};
 ghost use Rattle.model.specs.Network.{network};
 ghost use Rattle.prepare.specs.EndTable.{EndTable, TableEntry};
-ghost use Rattle.neighbor_sharing.specs.Joined.{reachedPairs, sweptSum, Beyond};
+ghost use Rattle.neighbor_sharing.specs.Joined.{reachedPairs, shared, Beyond};
 ghost use Rattle.neighbor_sharing.specs.Runs.{tableEdges};
 ghost use Rattle.sweep.specs.Ends.{decoded};
 ghost use Rattle.sweep.specs.Six.{EdgesLaid};
@@ -77,11 +77,12 @@ pub(crate) fn nearest(edges: Edges) -> u64
     lesser(lesser(ff, fs), lesser(sf, ss))
 }
 
-// For each event of the first edge, how many of the second are reached, by cursors that are moved from event to event.
+// For each event of the first edge, how many of the second are reached, by cursors that are moved from event to event: what these
+// join, whatever the lists hold.
 fn count_pairs(threshold: u32, edges: Edges, xs: &[u32], ys: &[u32]) -> u64
-    requires { ⌜ EdgesLaid edges (now xs) (now ys) ⌝ }
-    ensures { λ r. ⌜ (r ≡ reachedPairs threshold edges (now (xs .entry)) (now (ys .entry))) × (r ≤ maxPairs) ⌝ }
-    ensures { λ r. ⌜ r ≡ sweptSum threshold edges (now (xs .entry)) (now (ys .entry)) ⌝ }
+    requires { ⌜ (length (now xs) ≤ maxEvents) × (length (now ys) ≤ maxEvents) ⌝ }
+    ensures { λ r. ⌜ r ≡ shared threshold edges (now (xs .entry)) (now (ys .entry)) ⌝ }
+    ensures { λ r. ⌜ (EdgesLaid edges (now (xs .entry)) (now (ys .entry)) → (r ≡ reachedPairs threshold edges (now (xs .entry)) (now (ys .entry))) × (r ≤ maxPairs)) ⌝ }
 {
     let places = ys.len() as u64;
     let mut stands = at_rest(ys);

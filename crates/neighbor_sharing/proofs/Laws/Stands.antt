@@ -2,9 +2,10 @@
 use mathlib.Core.Bool.{Bool, true, false, cond}
 use mathlib.Core.List.{List}
 use mathlib.Core.Path.{_≡_, _∙_, refl, ap}
-use Prim.Native.Nat.{ℕ, _+_, _*_, _≤_, _<_}
+use Prim.Native.Nat.{ℕ, zero, suc, _+_, _*_, _≤_, _<_}
 use native.Mathlib.Omega.{arith}
-use lib.ListN.{length, getD}
+use lib.ListN.{length, getD, drop, drop-of-length-le}
+use lib.Seq.{drop-cons}
 use Rattle.model.specs.Limits.{maxEvents, maxPairs}
 use Rattle.model.specs.Counting.{sumBelow}
 use Rattle.model.specs.Location.{Side, at-first, at-second}
@@ -14,10 +15,11 @@ use Rattle.sweep.proofs.Laws.Moving.{at-most, moved-on-stands}
 use Rattle.sweep.proofs.Laws.OneWay.{rest-in, from-rest}
 use Rattle.sweep.proofs.Laws.Positions.{position-on, position-in, below-on, up-to-on}
 use Rattle.sweep.specs.Cursors.{position, below, upTo, rest}
-use Rattle.neighbor_sharing.specs.Joined.{joinedOf, joinedFrom, sweptSum}
+use Rattle.neighbor_sharing.proofs.Laws.Joined.{left-few}
+use Rattle.neighbor_sharing.specs.Joined.{joinedOf, joinedFrom, sharedFrom, shared, sweptSum}
 use Rattle.sweep.specs.Ends.{decoded, codeBetween, distanceBetween}
 use Rattle.sweep.specs.Six.{EdgesLaid}
-use Rattle.neighbor_sharing.specs.Stands.{routeStand, standsAt, standsAtRest, standOf, RouteMovable, StandsMovable}
+use Rattle.neighbor_sharing.specs.Stands.{routeStand, standsAt, standsAtRest, standsMoved, routeMoved, standOf, RouteMovable, StandsMovable}
 use Rattle.prepare.specs.Offsets.{Ordered}
 use Rattle.sweep.specs.Moving.{sideOf, movedOn, routeOrNone, belowCursor, upToCursor}
 use Rattle.sweep.specs.Sweeping.{standing, Movable}
@@ -44,7 +46,7 @@ module _ (t : ℕ) (w : Edges) (ys : List ℕ) (x : ℕ) where
         }
 
     -- moved on, it comes to stand where the route's does
-    pub route-moved : {from r : ℕ} → RouteMovable t w (sideOf first1) (sideOf first2) ys x from → r ≡ movedOn c (w .long2) ys x from → r ≡ routeStand t w (sideOf first1) (sideOf first2) ys x
+    route-moved : {from r : ℕ} → RouteMovable t w (sideOf first1) (sideOf first2) ys x from → r ≡ movedOn c (w .long2) ys x from → r ≡ routeStand t w (sideOf first1) (sideOf first2) ys x
     route-moved asked moved =
         moved ∙ moved-on-stands c (w .long2) ys x (route-can asked) ∙ route-stands (asked .on-edge)
 
@@ -60,23 +62,43 @@ module _ (t : ℕ) (w : Edges) (ys : List ℕ) (x : ℕ) where
   high-stands : {c : Cursor} → c ≡ upToCursor t → (q : ℕ) → standing c q ys x ≡ upTo t ys x
   high-stands made q = ap (λ (k : Cursor). standing k q ys x) made ∙ up-to-standing t q ys x
 
-  pub low-can : {c : Cursor} → c ≡ belowCursor t → {from : Stands} → StandsMovable t w ys x from → Movable c (w .long2) ys x (from .low)
+  low-can : {c : Cursor} → c ≡ belowCursor t → {from : Stands} → StandsMovable t w ys x from → Movable c (w .long2) ys x (from .low)
   unfolding belowCursor
   low-can {c} made asked =
       rising-can c (ap (λ (k : Cursor). k .falling) made) (asked .ordered) (w .long2) _ _ (low-stands made (w .long2)) (asked .low-on)
 
-  pub high-can : {c : Cursor} → c ≡ upToCursor t → {from : Stands} → StandsMovable t w ys x from → Movable c (w .long2) ys x (from .high)
+  high-can : {c : Cursor} → c ≡ upToCursor t → {from : Stands} → StandsMovable t w ys x from → Movable c (w .long2) ys x (from .high)
   unfolding upToCursor
   high-can {c} made asked =
       rising-can c (ap (λ (k : Cursor). k .falling) made) (asked .ordered) (w .long2) _ _ (high-stands made (w .long2)) (asked .high-on)
 
   -- all six
-  pub all-stand : {lower upper : Cursor} → lower ≡ belowCursor t → upper ≡ upToCursor t → {ff fs sf ss low high : ℕ} → ff ≡ routeStand t w at-first at-first ys x → fs ≡ routeStand t w at-first at-second ys x → sf ≡ routeStand t w at-second at-first ys x → ss ≡ routeStand t w at-second at-second ys x → low ≡ cond (w .same) (standing lower (w .long2) ys x) 0 → high ≡ cond (w .same) (standing upper (w .long2) ys x) 0 → _≡_ {A = Stands} (record { ff = ff; fs = fs; sf = sf; ss = ss; low = low; high = high }) (standsAt t w ys x)
+  all-stand : {lower upper : Cursor} → lower ≡ belowCursor t → upper ≡ upToCursor t → {ff fs sf ss low high : ℕ} → ff ≡ routeStand t w at-first at-first ys x → fs ≡ routeStand t w at-first at-second ys x → sf ≡ routeStand t w at-second at-first ys x → ss ≡ routeStand t w at-second at-second ys x → low ≡ cond (w .same) (standing lower (w .long2) ys x) 0 → high ≡ cond (w .same) (standing upper (w .long2) ys x) 0 → _≡_ {A = Stands} (record { ff = ff; fs = fs; sf = sf; ss = ss; low = low; high = high }) (standsAt t w ys x)
   unfolding standsAt
   all-stand is-lower is-upper a b c d e f =
       let low-is = e ∙ ap (λ (n : ℕ). cond (w .same) n 0) (low-stands is-lower (w .long2)) in
       let high-is = f ∙ ap (λ (n : ℕ). cond (w .same) n 0) (high-stands is-upper (w .long2)) in
       λ k. record { ff = a k; fs = b k; sf = c k; ss = d k; low = low-is k; high = high-is k }
+
+  -- moved on from where they may move on, the six stand there
+  pub stands-moved : {from : Stands} → StandsMovable t w ys x from → standsMoved t w ys x from ≡ standsAt t w ys x
+  unfolding standsMoved routeMoved sideOf standOf
+  stands-moved {from} asked =
+      all-stand refl refl
+      (route-moved true true (codeBetween w at-first at-first) (routeOrNone t (w .long1) true (codeBetween w at-first at-first) true) refl refl (asked .routes-can at-first at-first) refl)
+      (route-moved true false (codeBetween w at-first at-second) (routeOrNone t (w .long1) true (codeBetween w at-first at-second) false) refl refl (asked .routes-can at-first at-second) refl)
+      (route-moved false true (codeBetween w at-second at-first) (routeOrNone t (w .long1) false (codeBetween w at-second at-first) true) refl refl (asked .routes-can at-second at-first) refl)
+      (route-moved false false (codeBetween w at-second at-second) (routeOrNone t (w .long1) false (codeBetween w at-second at-second) false) refl refl (asked .routes-can at-second at-second) refl)
+      (ap (λ (n : ℕ). cond (w .same) n 0) (moved-on-stands (belowCursor t) (w .long2) ys x (low-can refl asked)))
+      (ap (λ (n : ℕ). cond (w .same) n 0) (moved-on-stands (upToCursor t) (w .long2) ys x (high-can refl asked)))
+
+-- each moved on by itself, with the window's cursors as they were made
+pub all-moved : (t : ℕ) (w : Edges) (ys : List ℕ) (x : ℕ) (from : Stands) {lower upper : Cursor} → lower ≡ belowCursor t → upper ≡ upToCursor t → {ff fs sf ss low high : ℕ} → ff ≡ routeMoved t w true true ys x (from .ff) → fs ≡ routeMoved t w true false ys x (from .fs) → sf ≡ routeMoved t w false true ys x (from .sf) → ss ≡ routeMoved t w false false ys x (from .ss) → low ≡ cond (w .same) (movedOn lower (w .long2) ys x (from .low)) 0 → high ≡ cond (w .same) (movedOn upper (w .long2) ys x (from .high)) 0 → _≡_ {A = Stands} (record { ff = ff; fs = fs; sf = sf; ss = ss; low = low; high = high }) (standsMoved t w ys x from)
+unfolding standsMoved
+all-moved t w ys x from is-lower is-upper a b c d e f =
+    let low-is = e ∙ ap (λ (k : Cursor). cond (w .same) (movedOn k (w .long2) ys x (from .low)) 0) is-lower in
+    let high-is = f ∙ ap (λ (k : Cursor). cond (w .same) (movedOn k (w .long2) ys x (from .high)) 0) is-upper in
+    λ k. record { ff = a k; fs = b k; sf = c k; ss = d k; low = low-is k; high = high-is k }
 
 -- where a route's cursor rests, and where it stands
 rests : (ys : List ℕ) (s s′ : Side) → standOf (standsAtRest ys) s s′ ≡ rest s ys
@@ -119,8 +141,46 @@ module _ (t : ℕ) (w : Edges) (ys : List ℕ) (o : Ordered ys) where
         high-on = cond-less (w .same) _ _ (up-to-on t ys x y h);
       }
 
+-- no more are joined than there are
+joined-few : (n : ℕ) (m : Stands) → joinedOf n m ≤ n
+unfolding joinedOf
+joined-few n m = left-few n _ _
+
 module _ (t : ℕ) (w : Edges) (xs ys : List ℕ) where
-  -- the loop's invariant: the cursors may move on to any event that is left, and what was reached is added up
+  -- one event more
+  shared-next : (m : Stands) (i : ℕ) → i < length xs → sharedFrom t w ys m (drop i xs) ≡ joinedOf (length ys) (standsMoved t w ys (getD xs i 0) m) + sharedFrom t w ys (standsMoved t w ys (getD xs i 0) m) (drop (i + 1) xs)
+  unfolding sharedFrom
+  shared-next m i h =
+      ap (sharedFrom t w ys m) (drop-cons xs i 0 h)
+      ∙ ap (λ (n : ℕ). joinedOf (length ys) (standsMoved t w ys (getD xs i 0) m) + sharedFrom t w ys (standsMoved t w ys (getD xs i 0) m) (drop n xs)) {x = suc i} {y = i + 1} (omega arith)
+
+  -- and none
+  shared-none : (m : Stands) (i : ℕ) → length xs ≤ i → sharedFrom t w ys m (drop i xs) ≡ 0
+  unfolding sharedFrom
+  shared-none m i h = ap (sharedFrom t w ys m) (drop-of-length-le xs h)
+
+  -- the loop's invariant: what is added up, and what is left to add by cursors moved on from where they stand, are all
+  pub record Sharing (i : ℕ) (m : Stands) (total : ℕ) : Type 0 where
+    pub i-in : i ≤ length xs
+    pub left : total + sharedFrom t w ys m (drop i xs) ≡ shared t w xs ys
+    pub total-few : total ≤ maxEvents * i
+
+  pub none-shared : {m : Stands} → m ≡ standsAtRest ys → Sharing 0 m 0
+  unfolding shared
+  none-shared e = record { i-in = omega arith; left = omega (arith, ap (λ (k : Stands). sharedFrom t w ys k xs) e); total-few = omega arith }
+
+  pub one-shared : length ys ≤ maxEvents → {i : ℕ} {m m′ : Stands} {total r : ℕ} → Sharing i m total → i < length xs → m′ ≡ standsMoved t w ys (getD xs i 0) m → r ≡ joinedOf (length ys) m′ → r ≤ length ys → Sharing (i + 1) m′ (total + r)
+  one-shared few-ys {i} {m} {m′} so-far h moved found few =
+      record {
+        i-in = omega arith;
+        left = omega (arith, so-far .left, shared-next m i h, found, ap (joinedOf (length ys)) moved, ap (λ (k : Stands). sharedFrom t w ys k (drop (i + 1) xs)) moved);
+        total-few = omega (arith, so-far .total-few);
+      }
+
+  pub all-shared : {i : ℕ} {m : Stands} {total : ℕ} → Sharing i m total → length xs ≤ i → total ≡ shared t w xs ys
+  all-shared {i} {m} so-far h = omega (arith, so-far .left, shared-none m i h)
+
+  -- the cursors may move on to any event that is left, and what was reached is added up
   pub record Counted (i : ℕ) (m : Stands) (total : ℕ) : Type 0 where
     pub i-in : i ≤ length xs
     pub can : (j : ℕ) → i ≤ j → j < length xs → StandsMovable t w ys (getD xs j 0) m
@@ -153,3 +213,16 @@ module _ (t : ℕ) (w : Edges) (xs ys : List ℕ) where
   all-counted laid {i} so-far h =
       let end : i ≡ length xs = omega (arith, so-far .i-in) in
       (so-far .total-is ∙ ap (λ (n : ℕ). sumBelow n (λ k. joinedFrom t w ys (getD xs k 0))) end, omega (arith, so-far .total-few, laid .first-laid .few))
+
+  -- over events laid out, what the moved cursors join is what their positions say
+  shares : EdgesLaid w xs ys → (n i : ℕ) {m : Stands} {total : ℕ} → Counted i m total → i + n ≡ length xs → total + sharedFrom t w ys m (drop i xs) ≡ sweptSum t w xs ys
+  shares laid zero i {m} so-far e = omega (arith, all-counted laid so-far (omega arith) .0, shared-none m i (omega arith))
+  shares laid (suc n) i {m} so-far e =
+      let inside : i < length xs = omega arith in
+      let moved = stands-moved t w ys (getD xs i 0) (so-far .can i (omega arith) inside) in
+      let on = shares laid n (i + 1) (one-counted laid so-far inside moved refl (joined-few (length ys) (standsMoved t w ys (getD xs i 0) m))) (omega arith) in
+      omega (arith, on, shared-next m i inside)
+
+  pub shared-swept : EdgesLaid w xs ys → shared t w xs ys ≡ sweptSum t w xs ys
+  unfolding shared
+  shared-swept laid = omega (arith, shares laid (length xs) 0 (none-counted laid refl) (omega arith))

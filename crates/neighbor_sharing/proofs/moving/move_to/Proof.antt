@@ -1,45 +1,38 @@
 -- Each of the six by itself.
-use Rattle.model.specs.Location.{at-first, at-second}
-use Rattle.neighbor_sharing.specs.Stands.{standOf}
-use Rattle.sweep.specs.Moving.{sideOf}
-use Rattle.neighbor_sharing.proofs.Laws.Stands.{low-can, high-can, all-stand}
+use Rattle.neighbor_sharing.specs.Stands.{standsMoved}
+use Rattle.neighbor_sharing.proofs.Laws.Stands.{all-moved}
 use borrow.Author.Needs.{needs}
 use Rattle.neighbor_sharing.proofs.moving.move_to.Statement.{statement}
 use Rattle.neighbor_sharing.proofs.moving.move_to.Tie as tie
 
 route-to-requires : tie.Need-route-to-requires
-unfolding sideOf standOf
-route-to-requires c κs = c .before .pre .routes-can at-first at-first
+route-to-requires c κs = search needs
 
 route-to-requires-2 : tie.Need-route-to-requires-2
-unfolding sideOf standOf
-route-to-requires-2 c κs = c .before .before .pre .routes-can at-first at-second
+route-to-requires-2 c κs = search needs
 
 route-to-requires-3 : tie.Need-route-to-requires-3
-unfolding sideOf standOf
-route-to-requires-3 c κs = c .before .before .before .pre .routes-can at-second at-first
+route-to-requires-3 c κs = search needs
 
 route-to-requires-4 : tie.Need-route-to-requires-4
-unfolding sideOf standOf
-route-to-requires-4 c κs = c .before .before .before .before .pre .routes-can at-second at-second
+route-to-requires-4 c κs = search needs
 
 below-requires : tie.Need-below-requires
 below-requires c κs = search needs
 
 window-to-requires : tie.Need-window-to-requires
-window-to-requires c κs = low-can _ _ _ _ (c .below .ensures) (c .before .before .before .before .before .before .pre)
+window-to-requires c κs = search needs
 
 up-to-requires : tie.Need-up-to-requires
 up-to-requires c κs = search needs
 
 window-to-requires-2 : tie.Need-window-to-requires-2
-window-to-requires-2 c κs = high-can _ _ _ _ (c .up-to .ensures) (c .before .before .before .before .before .before .before .before .pre)
+window-to-requires-2 c κs = search needs
 
 returns : tie.Need-returns
-unfolding sideOf
 returns c =
     let a = c .before .before .before .before .before .before .before .before .before .args in
-    all-stand (a .threshold) (a .edges) (a .ys .now) (a .x) (c .before .before .before .below .ensures) (c .before .up-to .ensures) (c .before .before .before .before .before .before .before .route-to .ensures) (c .before .before .before .before .before .before .route-to2 .ensures) (c .before .before .before .before .before .route-to3 .ensures) (c .before .before .before .before .route-to4 .ensures) (c .before .before .window-to .ensures) (c .window-to2 .ensures)
+    all-moved (a .threshold) (a .edges) (a .ys .now) (a .x) (a .from) (c .before .before .before .below .ensures) (c .before .up-to .ensures) (c .before .before .before .before .before .before .before .route-to .ensures) (c .before .before .before .before .before .before .route-to2 .ensures) (c .before .before .before .before .before .route-to3 .ensures) (c .before .before .before .before .route-to4 .ensures) (c .before .before .window-to .ensures) (c .window-to2 .ensures)
 
 pub move-to-spec : {M : Type 1} → statement M
 move-to-spec =

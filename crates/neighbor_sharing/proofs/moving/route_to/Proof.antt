@@ -1,5 +1,5 @@
--- The cursor made for the code stands where the route's does.
-use Rattle.neighbor_sharing.proofs.Laws.Stands.{route-moved}
+-- The cursor made for the code, moved on.
+use Rattle.neighbor_sharing.specs.Stands.{routeMoved}
 use borrow.Author.Needs.{needs}
 use Rattle.neighbor_sharing.proofs.moving.route_to.Statement.{statement}
 use Rattle.neighbor_sharing.proofs.moving.route_to.Tie as tie
@@ -14,9 +14,8 @@ advance-requires : tie.Need-advance-requires
 advance-requires c κs = search needs
 
 returns : tie.Need-returns
-returns c =
-    let a = c .before .before .before .before .args in
-    route-moved (a .threshold) (a .edges) (a .ys .now) (a .x) (a .first1) (a .first2) _ _ (c .before .before .code-between .ensures) (c .before .route-or-none .ensures) (c .before .before .before .before .pre) (c .advance .ensures)
+unfolding routeMoved
+returns c = rw (← c .before .before .code-between .ensures, ← c .before .route-or-none .ensures) (c .advance .ensures)
 
 pub route-to-spec : {M : Type 1} → statement M
 route-to-spec =

@@ -1,8 +1,7 @@
 -- By whether the edges are one.
-use mathlib.Core.Path.{_∙_, refl}
+use mathlib.Core.Path.{refl}
 use borrow.Author.Needs.{needs}
 use borrow.Author.Tests.{not-true, not-false}
-use Rattle.sweep.proofs.Laws.Moving.{moved-on-stands}
 use Rattle.neighbor_sharing.proofs.moving.window_to.Statement.{statement}
 use Rattle.neighbor_sharing.proofs.moving.window_to.Tie as tie
 
@@ -13,7 +12,7 @@ advance-requires : tie.Need-advance-requires
 advance-requires c κs = search needs
 
 returns-2 : tie.Need-returns-2
-returns-2 c = rw (not-false (c .before .before .before .args .same) (c .before .if1 .left)) (c .advance .ensures ∙ moved-on-stands _ _ _ _ (c .before .before .before .pre))
+returns-2 c = rw (not-false (c .before .before .before .args .same) (c .before .if1 .left)) (c .advance .ensures)
 
 pub window-to-spec : {M : Type 1} → statement M
 window-to-spec = tie.close (tie.spec returns advance-requires returns-2)
