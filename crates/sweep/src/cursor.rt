@@ -22,7 +22,7 @@ fn reach(cursor: Cursor, x: u32) -> u64
 {
     let plus = cursor.plus as u64 + 1;
     if cursor.falling {
-        return less(less(plus, x as u64), cursor.minus);
+        return less(less(plus, cursor.minus), x as u64);
     }
     less(x as u64 + plus, cursor.minus)
 }
