@@ -1,6 +1,5 @@
 // One cursor: how many events of the second edge are reached from an event of the first, seen from an end of the second edge.
 use model::less;
-use model::lesser;
 ghost use mathlib.Core.Path.{_≡_};
 ghost use Prim.Native.Nat.{_≤_, _<_, _-_};
 ghost use lib.ListN.{length};
@@ -84,8 +83,10 @@ pub fn advance(cursor: Cursor, ys: &[u32], long: u32, x: u32, position: usize) -
 {
     let metres = reach(cursor, x);
     if cursor.falling {
-        let from = lesser(position as u64, ys.len() as u64);
-        return fall(ys, long, cursor.first, metres, from as usize);
+        if ys.len() < position {
+            return fall(ys, long, cursor.first, metres, ys.len());
+        }
+        return fall(ys, long, cursor.first, metres, position);
     }
     rise(ys, long, cursor.first, metres, position)
 }
