@@ -14,13 +14,6 @@ pub record LaidOut (es xs : List ℕ) : Type 0 where
   pub edges-rise : (i j : ℕ) → i ≤ j → j < length es → getD es i 0 ≤ getD es j 0
   pub offsets-rise : (k : ℕ) → suc k < length es → getD es k 0 ≡ getD es (suc k) 0 → getD xs k 0 ≤ getD xs (suc k) 0
 
--- the events from one place up to before another lie on one edge, and the next one on another
-pub record RunEnds (es : List ℕ) (from to : ℕ) : Type 0 where
-  pub further : from < to
-  pub within : to ≤ length es
-  pub one-edge : (k : ℕ) → from ≤ k → k < to → getD es k 0 ≡ getD es from 0
-  pub ends : to < length es → getD es to 0 ≡ getD es from 0 → ⊥
-
 -- the first n events have their numbers stored: of the offsets on their edge, how many are at most theirs, and how many at least
 pub record EventsStored (es xs : List ℕ) (n : ℕ) (near-first near-second : List ℕ) : Type 0 where
   pub first-at : (k : ℕ) → k < n → getD near-first k 0 ≡ atMost (having (getD es k 0) es xs) (getD xs k 0)

@@ -1,28 +1,12 @@
 // The stored numbers of every event of a laid-out set.
 ghost use mathlib.Core.Path.{_≡_};
-ghost use Prim.Native.Nat.{_<_};
 ghost use lib.ListN.{length};
 ghost use Rattle.model.specs.Network.{network};
 ghost use Rattle.count_augmentation.specs.Augmented.{augmentCheck, Augmented};
-ghost use Rattle.count_augmentation.specs.Events.{LaidOut, RunEnds, EventsStored};
+ghost use Rattle.count_augmentation.specs.Events.{LaidOut, EventsStored};
 use crate::store::store;
 use model::Check;
-
-// Where the events on the edge of the one at a place end.
-fn run_end(edges: &[u32], from: usize) -> usize
-    requires { ⌜ from < length (now edges) ⌝ }
-    ensures { λ r. ⌜ RunEnds (now (edges .entry)) from r ⌝ }
-{
-    let edge = edges[from];
-    let mut to = from + 1;
-    while to < edges.len() {
-        if edges[to] != edge {
-            return to;
-        }
-        to += 1;
-    }
-    to
-}
+use model::equals_end;
 
 // The stored numbers of all events, edge by edge.
 fn store_events(edges: &[u32], offsets: &[u32], near_first: &mut [u32], near_second: &mut [u32])
@@ -31,7 +15,7 @@ fn store_events(edges: &[u32], offsets: &[u32], near_first: &mut [u32], near_sec
 {
     let mut from = 0;
     while from < edges.len() {
-        let to = run_end(edges, from);
+        let to = equals_end(edges, from);
         store(
             &offsets[from..to],
             &mut near_first[from..to],

@@ -13,6 +13,7 @@ ghost use Rattle.count_augmentation.specs.Storing.{NumbersStored, stored
 use crate::reach::count_reached;
 use crate::reach::reach;
 use crate::reach::reach_by;
+use model::equals_end;
 
 // Two edges: their lengths, the table entries from each end of the one to each end of the other, whether they are one edge, and the
 // entry of the least way between them.
@@ -112,8 +113,8 @@ fn is_whole(g: EdgePair, threshold: u32) -> bool
     whole < reach_by(threshold, g.size, g.least)
 }
 
-// For each event of a run on the first edge, how many of a run on the second it reaches. The whole run's number is read beforehand,
-// once for all thresholds.
+// For each event of a run on the first edge, how many of a run on the second it reaches: looked up once for events at one offset. The
+// whole run's number is read beforehand, once for all thresholds.
 pub(crate) fn count_run(
     g: EdgePair,
     threshold: u32,
@@ -136,7 +137,9 @@ pub(crate) fn count_run(
     let mut total = 0;
     let mut i = 0;
     while i < from_offsets.len() {
-        total += count_event(
+        let next = equals_end(from_offsets, i);
+        let equals = next - i;
+        let found = count_event(
             g,
             threshold,
             from_offsets[i],
@@ -145,7 +148,8 @@ pub(crate) fn count_run(
             near_second,
             all,
         );
-        i += 1;
+        total += equals as u64 * found;
+        i = next;
     }
     total
 }

@@ -9,6 +9,7 @@ pub mod Routes
 pub mod Cases
 pub mod Counting
 pub mod Lists
+pub mod Equals
 pub mod Rows
 pub mod Sorted
 pub mod Perimeter

@@ -1,7 +1,10 @@
--- Sums, counts and membership over the numbers below a bound and over lists, and what several stretches of places cover.
+-- Sums, counts and membership over the numbers below a bound and over lists, equal entries in a row, and what several stretches of
+-- places cover.
 use mathlib.Core.Bool.{Bool, true, false, cond}
 use mathlib.Core.List.{List, [], _∷_, _++_, List·Memᴰ}
 use Prim.Native.Nat.{ℕ, zero, suc, _+_, _-_, min, max}
+use lib.Dec.{eqb}
+use lib.ListN.{drop, getD}
 
 -- f 0 + f 1 + .. + f (n - 1)
 unfoldable pub sumBelow : ℕ → (ℕ → ℕ) → ℕ
@@ -25,6 +28,15 @@ countIf test (x ∷ xs) = one-if (test x) + countIf test xs
 -- of n places the first p, the last q, and those from below on up to before upto, which is no less: what overlaps counts once
 abbrev pub covered : ℕ → ℕ → ℕ → ℕ → ℕ → ℕ
 covered n p q below upto = n - (min below (n - q) - p) - ((n - q) - max upto p)
+
+-- how many entries in front of a list equal a number
+unfoldable pub equalsInFront : ℕ → List ℕ → ℕ
+equalsInFront n [] = 0
+equalsInFront n (m ∷ ms) = cond (eqb m n) (suc (equalsInFront n ms)) 0
+
+-- the place behind those that, from place k on, equal the entry there
+unfoldable pub equalsEnd : List ℕ → ℕ → ℕ
+equalsEnd ns k = k + equalsInFront (getD ns k 0) (drop k ns)
 
 -- the numbers start, start + 1, .., n of them
 unfoldable pub numbersFrom : ℕ → ℕ → List ℕ

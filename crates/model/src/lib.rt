@@ -1,5 +1,6 @@
 // The types that carry document 01's limits, and the refusal. What a reader must believe stands in specs/.
 mod check;
+mod equals;
 mod event_set;
 mod network;
 mod number;
@@ -7,6 +8,7 @@ mod thresholds;
 
 pub use check::Check;
 pub use check::is_between;
+pub use equals::equals_end;
 pub use event_set::EventSet;
 pub use event_set::MadeEventSet;
 pub use network::MadeNetwork;

@@ -2,6 +2,7 @@
 use crate::joining::joined_of;
 use crate::moving::at_rest;
 use crate::moving::move_to;
+use model::equals_end;
 use model::lesser;
 use sweep::Edges;
 ghost use mathlib.Core.Bool.{false};
@@ -78,7 +79,7 @@ pub(crate) fn nearest(edges: Edges) -> u64
 }
 
 // For each event of the first edge, how many of the second are reached, by cursors that are moved from event to event: what these
-// join, whatever the lists hold.
+// join, whatever the lists hold. At events with the offset of the one before they would stay where they are.
 fn count_pairs(threshold: u32, edges: Edges, xs: &[u32], ys: &[u32]) -> u64
     requires { ⌜ (length (now xs) ≤ maxEvents) × (length (now ys) ≤ maxEvents) ⌝ }
     ensures { λ r. ⌜ r ≡ shared threshold edges (now (xs .entry)) (now (ys .entry)) ⌝ }
@@ -90,8 +91,10 @@ fn count_pairs(threshold: u32, edges: Edges, xs: &[u32], ys: &[u32]) -> u64
     let mut i = 0;
     while i < xs.len() {
         stands = move_to(threshold, edges, ys, xs[i], stands);
-        total += joined_of(places, stands);
-        i += 1;
+        let next = equals_end(xs, i);
+        let equals = next - i;
+        total += equals as u64 * joined_of(places, stands);
+        i = next;
     }
     total
 }

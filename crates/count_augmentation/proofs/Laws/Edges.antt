@@ -2,16 +2,17 @@
 use mathlib.Core.List.{List}
 use mathlib.Core.Path.{_≡_, refl, sym, ap, ap₂, _∙_}
 use Prim.Native.Nat.{ℕ, suc, pred, _+_, _-_, _≤_, _<_}
-use native.Mathlib.Decide.{decLt, ℕ-discrete}
+use native.Mathlib.Decide.{decLt}
 use native.Mathlib.Omega.{arith}
 use borrow.Author.Tests.{lt-ltb, le-ltb, le-leb, lt-leb}
 use borrow.Rule.Slice.PartMut.{putMid, take-put}
 use lib.ListN.{length, getD, drop}
 use lib.Seq.{getD-take, getD-drop}
+use Rattle.model.proofs.Laws.Equals.{Equals}
 use Rattle.model.proofs.Laws.Pieces.{part, part-length, part-at}
 use Rattle.model.proofs.Laws.Stretch.{before-edge, through-edge, having-part, rise-by-one}
 use Rattle.model.specs.Events.{having}
-use Rattle.count_augmentation.specs.Events.{LaidOut, RunEnds, EventsStored}
+use Rattle.count_augmentation.specs.Events.{LaidOut, EventsStored}
 use Rattle.prepare.specs.Offsets.{Ordered, OnEdge}
 use Rattle.count_augmentation.specs.Storing.{NumbersStored, atMost, atLeast}
 use Rattle.count_augmentation.proofs.Laws.Places.{count-before, stored-first, stored-second}
@@ -51,7 +52,7 @@ all-events {es} {from = from} so-far h =
 
 -- a turn: the events from one place up to before another
 module _ {es xs first₀ second₀ : List ℕ} (laid : LaidOut es xs) (first-room : length first₀ ≡ length es) (second-room : length second₀ ≡ length es)
-    {from : ℕ} {first second : List ℕ} (so-far : StoredUpTo es xs first₀ second₀ from first second) {to : ℕ} (run : RunEnds es from to) where
+    {from : ℕ} {first second : List ℕ} (so-far : StoredUpTo es xs first₀ second₀ from first second) {to : ℕ} (run : Equals es from to) where
   -- later events lie on later edges
   beyond : (k : ℕ) → to ≤ k → k < length es → getD es from 0 < getD es k 0
   beyond k h l =
@@ -66,7 +67,7 @@ module _ {es xs first₀ second₀ : List ℕ} (laid : LaidOut es xs) (first-roo
   through-is : through-edge (getD es from 0) es ≡ to
   through-is =
       count-before _ es to (run .within)
-      (λ k l. le-leb (getD es k 0) (getD es from 0) (omega (arith, laid .edges-rise k (pred to) (omega arith) (omega (arith, run .within)), run .one-edge (pred to) (omega (arith, run .further)) (omega arith))))
+      (λ k l. le-leb (getD es k 0) (getD es from 0) (omega (arith, laid .edges-rise k (pred to) (omega arith) (omega (arith, run .within)), run .same (pred to) (omega (arith, run .further)) (omega arith))))
       (λ k l m. lt-leb (getD es k 0) (getD es from 0) (beyond k l m))
 
   -- what lies on the edge is the part
@@ -84,8 +85,8 @@ module _ {es xs first₀ second₀ : List ℕ} (laid : LaidOut es xs) (first-roo
       step k h =
           let next : from + suc k ≡ suc (from + k) = omega arith in
           let inside : suc (from + k) < length es = omega (arith, run .within) in
-          let one = run .one-edge (from + k) (omega arith) (omega arith) in
-          let other = run .one-edge (suc (from + k)) (omega arith) (omega arith) in
+          let one = run .same (from + k) (omega arith) (omega arith) in
+          let other = run .same (suc (from + k)) (omega arith) (omega arith) in
           rw (part-at from to k xs (omega arith), part-at from to (suc k) xs h, next) (laid .offsets-rise (from + k) inside (one ∙ sym other))
 
   pub edge-cut : RunCut xs first second from to
@@ -115,7 +116,7 @@ module _ {es xs first₀ second₀ : List ℕ} (laid : LaidOut es xs) (first-roo
     inside-at i h =
         put-inside from (to - from) near new i (omega arith) (put-length from to near new (omega (arith, run .further)) fits kept) h
         ∙ new-at i (omega (arith, long))
-        ∙ ap₂ count (sym on-edge-part ∙ ap (λ (e : ℕ). having e es xs) (sym (run .one-edge (from + i) (omega arith) (omega arith)))) (part-at from to i xs h)
+        ∙ ap₂ count (sym on-edge-part ∙ ap (λ (e : ℕ). having e es xs) (sym (run .same (from + i) (omega arith) (omega arith)))) (part-at from to i xs h)
 
     numbers-at : (k : ℕ) → k < to → getD (putMid from (to - from) near new) k 0 ≡ count (having (getD es k 0) es xs) (getD xs k 0)
     numbers-at k h = go (decLt k from)
@@ -142,33 +143,4 @@ module _ {es xs first₀ second₀ : List ℕ} (laid : LaidOut es xs) (first-roo
     where
       go : (i j : ℕ) → i < to → to ≤ j → j < length es → Dec (i < from) → getD es i 0 < getD es j 0
       go i j h l m (yes u) = so-far .apart i j u (omega (arith, run .further)) m
-      go i j h l m (no u) = omega (arith, beyond j l m, run .one-edge i (omega arith) h)
-
--- the events from one place up to before another lie on one edge
-pub record OneEdge (es : List ℕ) (from to : ℕ) : Type 0 where
-  pub further : from < to
-  pub within : to ≤ length es
-  pub one-edge : (k : ℕ) → from ≤ k → k < to → getD es k 0 ≡ getD es from 0
-
-pub edge-begins : (es : List ℕ) (from : ℕ) → from < length es → OneEdge es from (from + 1)
-edge-begins es from h =
-    record {
-      further = omega arith;
-      within = omega arith;
-      one-edge = λ k l m. let same : k ≡ from = omega arith in ap (λ (n : ℕ). getD es n 0) same;
-    }
-
-module _ {es : List ℕ} {from to : ℕ} (so-far : OneEdge es from to) where
-  pub edge-on : to < length es → getD es to 0 ≡ getD es from 0 → OneEdge es from (to + 1)
-  edge-on h e = record { further = omega (arith, so-far .further); within = omega arith; one-edge = λ k l m. go k l m (ℕ-discrete k to) }
-    where
-      go : (k : ℕ) → from ≤ k → k < to + 1 → Dec (k ≡ to) → getD es k 0 ≡ getD es from 0
-      go k l m (yes same) = rw same e
-      go k l m (no other) = so-far .one-edge k l (omega arith)
-
-  pub edge-ends : (getD es to 0 ≡ getD es from 0 → ⊥) → RunEnds es from to
-  edge-ends other = record { further = so-far .further; within = so-far .within; one-edge = so-far .one-edge; ends = λ h. other }
-
-  pub edge-all : length es ≤ to → RunEnds es from to
-  edge-all h =
-      record { further = so-far .further; within = so-far .within; one-edge = so-far .one-edge; ends = λ l. absurd (omega arith) }
+      go i j h l m (no u) = omega (arith, beyond j l m, run .same i (omega arith) h)

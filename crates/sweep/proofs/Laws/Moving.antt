@@ -76,6 +76,52 @@ module _ (test : ℕ → Bool) where
   pub rises-to-all : (n k : ℕ) → n ≤ k → risenFrom test (n - k) k ≡ k
   rises-to-all n k h = ends (n - k) k (omega arith)
 
+  -- moved again, it stays where it is
+  fell-down : (k : ℕ) → fallenFrom test k ≤ k
+  unfolding fallenFrom
+  fell-down zero = omega arith
+  fell-down (suc k) = go (test k) (fell-down k)
+    where
+      go : (b : Bool) → fallenFrom test k ≤ k → cond b (suc k) (fallenFrom test k) ≤ suc k
+      go true h = omega arith
+      go false h = omega arith
+
+  fell-again : (k : ℕ) → fallenFrom test (fallenFrom test k) ≡ fallenFrom test k
+  unfolding fallenFrom
+  fell-again zero = refl
+  fell-again (suc k) = go (test k) refl (fell-again k)
+    where
+      go : (b : Bool) → test k ≡ b → fallenFrom test (fallenFrom test k) ≡ fallenFrom test k → fallenFrom test (cond b (suc k) (fallenFrom test k)) ≡ cond b (suc k) (fallenFrom test k)
+      go true e again = fell-none k e
+      go false e again = again
+
+  rose-up : (left k : ℕ) → (k ≤ risenFrom test left k) × (risenFrom test left k ≤ left + k)
+  unfolding risenFrom
+  rose-up zero k = (omega arith, omega arith)
+  rose-up (suc left) k = go (test k) (rose-up left (suc k))
+    where
+      go : (b : Bool) → (suc k ≤ risenFrom test left (suc k)) × (risenFrom test left (suc k) ≤ left + suc k) → (k ≤ cond b (risenFrom test left (suc k)) k) × (cond b (risenFrom test left (suc k)) k ≤ suc left + k)
+      go true h = (omega (arith, h .0), omega (arith, h .1))
+      go false h = (omega arith, omega arith)
+
+  rose-again : (left k left′ : ℕ) → left′ + risenFrom test left k ≡ left + k → risenFrom test left′ (risenFrom test left k) ≡ risenFrom test left k
+  unfolding risenFrom
+  rose-again zero k left′ e = ends left′ k (omega arith)
+  rose-again (suc left) k left′ e = go (test k) refl (λ l. rose-again left (suc k) left′ l) e
+    where
+      go : (b : Bool) → test k ≡ b → (left′ + risenFrom test left (suc k) ≡ left + suc k → risenFrom test left′ (risenFrom test left (suc k)) ≡ risenFrom test left (suc k)) → left′ + cond b (risenFrom test left (suc k)) k ≡ suc left + k → risenFrom test left′ (cond b (risenFrom test left (suc k)) k) ≡ cond b (risenFrom test left (suc k)) k
+      go true t again e = again (omega arith)
+      go false t again e = stays left′ k t
+
+  -- of n places, from any
+  falls-again : (n k : ℕ) → fallenFrom test (min (fallenFrom test (min k n)) n) ≡ fallenFrom test (min k n)
+  falls-again n k =
+      ap (fallenFrom test) {x = min (fallenFrom test (min k n)) n} {y = fallenFrom test (min k n)} (omega (arith, fell-down (min k n)))
+      ∙ fell-again (min k n)
+
+  rises-again : (n k : ℕ) → risenFrom test (n - risenFrom test (n - k) k) (risenFrom test (n - k) k) ≡ risenFrom test (n - k) k
+  rises-again n k = rose-again (n - k) k _ (omega (arith, rose-up (n - k) k .0, rose-up (n - k) k .1))
+
   -- where the first m places pass, and no other of n: down from no fewer, and up from no more
   module _ (n m : ℕ) (passes : (k : ℕ) → k < n → test k ≡ ltb k m) where
     pub falls-to : (k : ℕ) → m ≤ k → k ≤ n → fallenFrom test k ≡ m
@@ -117,6 +163,10 @@ kind-down b m n e = rw e refl
 kind-up : (b : Bool) (m n : ℕ) → b ≡ false → n ≡ cond b m n
 kind-up b m n e = rw e refl
 
+again : (test : ℕ → Bool) (n k : ℕ) (b : Bool) → cond b (fallenFrom test (min (cond b (fallenFrom test (min k n)) (risenFrom test (n - k) k)) n)) (risenFrom test (n - cond b (fallenFrom test (min k n)) (risenFrom test (n - k) k)) (cond b (fallenFrom test (min k n)) (risenFrom test (n - k) k))) ≡ cond b (fallenFrom test (min k n)) (risenFrom test (n - k) k)
+again test n k true = falls-again test n k
+again test n k false = rises-again test n k
+
 module _ (c : Cursor) (q : ℕ) (ys : List ℕ) (x : ℕ) where
   -- a falling cursor has to go down, a rising one up
   down-to : (position : ℕ) → Movable c q ys x position → c .falling ≡ true → standing c q ys x ≤ position
@@ -140,6 +190,11 @@ module _ (c : Cursor) (q : ℕ) (ys : List ℕ) (x : ℕ) where
     where
       near : (k : ℕ) → k < length ys → isWithin q (sideOf (c .first)) (reach c x) ys k ≡ ltb k (standing c q ys x)
       near k h = nearest q (sideOf (c .first)) (reach c x) ys (m .ordered) k h
+
+  -- moved on to one offset twice, it stands where it did
+  pub moved-again : (position : ℕ) → movedOn c q ys x (movedOn c q ys x position) ≡ movedOn c q ys x position
+  unfolding movedOn
+  moved-again position = again (isWithin q (sideOf (c .first)) (reach c x) ys) (length ys) position (c .falling)
 
   -- the two ways that the code goes
   pub falls-on : (position : ℕ) {metres from r : ℕ} → c .falling ≡ true → metres ≡ reach c x → from ≡ min position (length ys) → r ≡ fallenFrom (isWithin q (sideOf (c .first)) metres ys) from → r ≡ movedOn c q ys x position

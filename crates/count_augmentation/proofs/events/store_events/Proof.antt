@@ -2,6 +2,7 @@
 use Prim.Native.Nat.{_-_}
 use native.Mathlib.Omega.{arith}
 use lib.ListN.{length}
+use Rattle.model.proofs.Laws.Equals.{Equals, equals-end}
 use Rattle.count_augmentation.proofs.Laws.Edges.{StoredUpTo, nothing-stored, edge-cut, edge-stored, all-events}
 use Rattle.count_augmentation.proofs.Laws.Storage.{RunCut, storable}
 use borrow.Author.Needs.{needs}
@@ -18,12 +19,16 @@ abbrev μ-loop : tie.MeasureT-loop
 loop-holds : tie.Need-loop-holds Inv-loop μ-loop
 loop-holds c = nothing-stored _ _ _ _
 
--- the events of the edge at hand
-cut : (c : tie.After-run-end Inv-loop μ-loop) → RunCut (c .before .before .before .before .before .before .before .args .offsets .now) (c .before .before .loop .near-first) (c .before .before .loop .near-second) (c .before .before .loop .from) (c .run-end .result)
-cut c = edge-cut (c .before .before .before .before .before .before .before .pre .0) (c .before .before .before .before .before .before .before .pre .1) (c .before .before .before .before .before .before .before .pre .2) (c .before .before .loop .inv) (c .run-end .ensures)
+-- where the edge at hand ends
+ended : (c : tie.After-equals-end Inv-loop μ-loop) → Equals (c .before .before .before .before .before .before .before .args .edges .now) (c .before .before .loop .from) (c .equals-end .result)
+ended c = equals-end _ _ (c .equals-end .ensures) (c .before .loop-test .taken)
 
-run-end-requires : tie.Need-run-end-requires Inv-loop μ-loop
-run-end-requires c κs = search needs
+-- the events of the edge at hand
+cut : (c : tie.After-equals-end Inv-loop μ-loop) → RunCut (c .before .before .before .before .before .before .before .args .offsets .now) (c .before .before .loop .near-first) (c .before .before .loop .near-second) (c .before .before .loop .from) (c .equals-end .result)
+cut c = edge-cut (c .before .before .before .before .before .before .before .pre .0) (c .before .before .before .before .before .before .before .pre .1) (c .before .before .before .before .before .before .before .pre .2) (c .before .before .loop .inv) (ended c)
+
+equals-end-requires : tie.Need-equals-end-requires Inv-loop μ-loop
+equals-end-requires c κs = search needs
 
 mul-store : tie.Need-mul-store Inv-loop μ-loop
 mul-store c = omega (arith, cut c .in-order, cut c .few)
@@ -67,10 +72,10 @@ store-requires c κs =
     (storable run _ (run .in-first), storable run _ (run .in-second))
 
 loop-less : tie.Need-loop-less Inv-loop μ-loop
-loop-less c = omega (arith, c .before .before .before .before .before .before .before .before .run-end .ensures .further, c .before .before .before .before .before .before .before .before .before .loop-test .taken)
+loop-less c = omega (arith, ended (c .before .before .before .before .before .before .before .before) .further, c .before .before .before .before .before .before .before .before .before .loop-test .taken)
 
 loop-again : tie.Need-loop-again Inv-loop μ-loop
-loop-again c = edge-stored (c .before .before .before .before .before .before .before .before .before .before .before .before .before .before .before .pre .0) (c .before .before .before .before .before .before .before .before .before .before .before .before .before .before .before .pre .1) (c .before .before .before .before .before .before .before .before .before .before .before .before .before .before .before .pre .2) (c .before .before .before .before .before .before .before .before .before .before .loop .inv) (c .before .before .before .before .before .before .before .before .run-end .ensures) _ _ (c .before .before .before .near-first .given .1) (c .before .near-second .given .1) (c .before .before .before .before .store .ensures)
+loop-again c = edge-stored (c .before .before .before .before .before .before .before .before .before .before .before .before .before .before .before .pre .0) (c .before .before .before .before .before .before .before .before .before .before .before .before .before .before .before .pre .1) (c .before .before .before .before .before .before .before .before .before .before .before .before .before .before .before .pre .2) (c .before .before .before .before .before .before .before .before .before .before .loop .inv) (ended (c .before .before .before .before .before .before .before .before)) _ _ (c .before .before .before .near-first .given .1) (c .before .near-second .given .1) (c .before .before .before .before .store .ensures)
 
 same-length : tie.Need-same-length Inv-loop μ-loop
 same-length c = c .before .loop .inv .first-long
@@ -88,7 +93,7 @@ store-events-spec =
     Inv-loop
     μ-loop
     loop-holds
-    run-end-requires
+    equals-end-requires
     mul-store
     sub-store
     part-store-start

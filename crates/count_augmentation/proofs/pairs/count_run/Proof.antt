@@ -1,13 +1,14 @@
 -- Nothing, the whole run's number for each event, or the sum over the events passed.
 use mathlib.Core.Path.{_≡_, refl, ap, _∙_}
-use Prim.Native.Nat.{ℕ, _-_, _*_, _≤_}
+use Prim.Native.Nat.{ℕ, _+_, _-_, _*_, _≤_}
 use native.Mathlib.Nat.{mul-le-mul}
 use native.Mathlib.Omega.{arith}
 use lib.ListN.{length, getD}
 use Rattle.model.specs.Counting.{sumBelow}
 use Rattle.count_augmentation.specs.Pairs.{lookedUpBy, lookedUpPairs}
-use Rattle.model.proofs.Laws.Counting.{sum-next}
+use Rattle.model.proofs.Laws.Equals.{Equals, equals-end, sum-equals}
 use Rattle.count_augmentation.proofs.Laws.Pairs.{looked-up-small, no-look-ups, all-look-ups, pairs-counted}
+use borrow.Author.Needs.{needs}
 use Rattle.count_augmentation.proofs.pairs.count_run.Statement.{statement}
 use Rattle.count_augmentation.proofs.pairs.count_run.Tie as tie
 
@@ -20,7 +21,14 @@ abbrev μ-loop : tie.MeasureT-loop
 
 -- the whole run's number is of 32 bits, and so is what is looked up for an event
 event-small : (c : tie.After-count-event Inv-loop μ-loop) → c .count-event .result ≤ 4294967295
-event-small c = rw (c .count-event .ensures .0) (looked-up-small (c .before .before .before .before .before .before .before .before .before .before .before .before .args .g) (c .before .before .before .before .before .before .before .before .before .before .before .before .args .threshold) _ _ _ _ 4294967295 (rw (← c .before .before .before .before .before .before .before .before .before .before .before .before .pre .1) (omega arith)) (omega (arith, c .before .before .before .before .before .before .before .before .before .before .before .before .pre .0 .run .few)))
+event-small c = rw (c .count-event .ensures .0) (looked-up-small (c .before .before .before .before .before .before .before .before .before .before .before .before .before .args .g) (c .before .before .before .before .before .before .before .before .before .before .before .before .before .args .threshold) _ _ _ _ 4294967295 (rw (← c .before .before .before .before .before .before .before .before .before .before .before .before .before .pre .1) (omega arith)) (omega (arith, c .before .before .before .before .before .before .before .before .before .before .before .before .before .pre .0 .run .few)))
+
+-- the events at one offset, and what is looked up for all of them
+ended : (c : tie.After-equals-end Inv-loop μ-loop) → Equals (c .before .before .before .before .before .before .before .before .before .before .before .args .from-offsets .now) (c .before .before .loop .i) (c .equals-end .result)
+ended c = equals-end _ _ (c .equals-end .ensures) (c .before .loop-test .taken)
+
+all-small : (c : tie.After-count-event Inv-loop μ-loop) → (c .before .before .equals-end .result - c .before .before .before .before .loop .i) * c .count-event .result ≤ (c .before .before .equals-end .result - c .before .before .before .before .loop .i) * 4294967295
+all-small c = mul-le-mul {m₁ = c .count-event .result} {m₂ = 4294967295} (omega arith) (event-small c)
 
 is-beyond-requires : tie.Need-is-beyond-requires Inv-loop μ-loop
 is-beyond-requires c κs = c .before .before .before .before .pre .0 .least-is
@@ -45,6 +53,12 @@ loop-holds : tie.Need-loop-holds Inv-loop μ-loop
 unfolding sumBelow
 loop-holds c = (omega arith, refl, omega arith)
 
+equals-end-requires : tie.Need-equals-end-requires Inv-loop μ-loop
+equals-end-requires c κs = search needs
+
+sub-equals : tie.Need-sub-equals Inv-loop μ-loop
+sub-equals c = omega (arith, ended c .further)
+
 mul-count-event : tie.Need-mul-count-event Inv-loop μ-loop
 mul-count-event c = omega arith
 
@@ -52,22 +66,23 @@ shared-slice-read-count-event : tie.Need-shared-slice-read-count-event Inv-loop 
 shared-slice-read-count-event c = omega arith
 
 count-event-requires : tie.Need-count-event-requires Inv-loop μ-loop
-count-event-requires c κs = (c .before .before .before .before .before .before .before .before .before .before .before .pre .0 .on-edge .on (c .before .before .loop .i) (omega arith), c .before .before .before .before .before .before .before .before .before .before .before .pre .0 .run, c .before .before .before .before .before .before .before .before .before .before .before .pre .1)
+count-event-requires c κs = (c .before .before .before .before .before .before .before .before .before .before .before .before .pre .0 .on-edge .on (c .before .before .before .loop .i) (omega arith), c .before .before .before .before .before .before .before .before .before .before .before .before .pre .0 .run, c .before .before .before .before .before .before .before .before .before .before .before .before .pre .1)
+
+mul-total : tie.Need-mul-total Inv-loop μ-loop
+mul-total c = omega (arith, all-small c, ended (c .before .before) .within, c .before .before .before .before .before .before .before .before .before .before .before .before .before .pre .0 .few)
 
 add-total : tie.Need-add-total Inv-loop μ-loop
-add-total c = omega (arith, c .before .before .before .loop .inv .2, c .before .before .loop-test .taken, event-small c, c .before .before .before .before .before .before .before .before .before .before .before .before .pre .0 .few)
-
-add-i : tie.Need-add-i Inv-loop μ-loop
-add-i c = omega arith
+add-total c = omega (arith, c .before .before .before .before .loop .inv .2, all-small c, ended (c .before .before) .further, ended (c .before .before) .within, c .before .before .before .before .before .before .before .before .before .before .before .before .before .pre .0 .few)
 
 loop-less : tie.Need-loop-less Inv-loop μ-loop
-loop-less c = omega arith
+loop-less c = omega (arith, ended (c .before .before) .further, ended (c .before .before) .within)
 
 loop-again : tie.Need-loop-again Inv-loop μ-loop
 loop-again c = (
-  omega arith,
-  omega (arith, c .before .before .before .loop .inv .1, c .count-event .ensures .0, sum-next (λ k. lookedUpBy (c .before .before .before .before .before .before .before .before .before .before .before .before .args .g) (c .before .before .before .before .before .before .before .before .before .before .before .before .args .threshold) (getD (c .before .before .before .before .before .before .before .before .before .before .before .before .args .from-offsets .now) k 0) (c .before .before .before .before .before .before .before .before .before .before .before .before .args .offsets .now) (c .before .before .before .before .before .before .before .before .before .before .before .before .args .near-first .now) (c .before .before .before .before .before .before .before .before .before .before .before .before .args .near-second .now)) (c .before .before .before .loop .i)),
-  omega (arith, c .before .before .before .loop .inv .2, event-small c),
+  ended (c .before .before) .within,
+  ap (λ (n : ℕ). c .before .before .before .before .loop .total + (c .before .before .equals-end .result - c .before .before .before .before .loop .i) * n) (c .count-event .ensures .0)
+      ∙ omega (arith, c .before .before .before .before .loop .inv .1, sum-equals (λ x. lookedUpBy (c .before .before .before .before .before .before .before .before .before .before .before .before .before .args .g) (c .before .before .before .before .before .before .before .before .before .before .before .before .before .args .threshold) x (c .before .before .before .before .before .before .before .before .before .before .before .before .before .args .offsets .now) (c .before .before .before .before .before .before .before .before .before .before .before .before .before .args .near-first .now) (c .before .before .before .before .before .before .before .before .before .before .before .before .before .args .near-second .now)) (ended (c .before .before))),
+  omega (arith, c .before .before .before .before .loop .inv .2, all-small c, ended (c .before .before) .further),
 )
 
 returns-3 : tie.Need-returns-3 Inv-loop μ-loop
@@ -89,11 +104,13 @@ count-run-spec =
     mul-result
     returns-2
     loop-holds
+    equals-end-requires
+    sub-equals
     mul-count-event
     shared-slice-read-count-event
     count-event-requires
+    mul-total
     add-total
-    add-i
     loop-less
     loop-again
     returns-3)
