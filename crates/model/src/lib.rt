@@ -1,16 +1,17 @@
 // The types that carry document 01's limits, and the refusal. What a reader must believe stands in specs/.
 mod check;
-mod equals;
 mod event_set;
+mod list;
 mod network;
 mod number;
 mod thresholds;
 
 pub use check::Check;
 pub use check::is_between;
-pub use equals::equals_end;
 pub use event_set::EventSet;
 pub use event_set::MadeEventSet;
+pub use list::equals_end;
+pub use list::value_at;
 pub use network::MadeNetwork;
 pub use network::Network;
 pub use number::apart;

@@ -12,16 +12,10 @@ use crate::writing::put;
 use crate::writing::put_field;
 use crate::writing::put_number;
 use model::Check;
+use model::value_at;
 
 // How many bytes the line of names takes.
 const NAMES: usize = 35;
-
-// An entry of a column, 0 behind its end.
-fn value_at(column: &[u32], k: usize) -> u32
-    ensures { λ r. ⌜ r ≡ getD (now (column .entry)) k 0 ⌝ }
-{
-    if k < column.len() { column[k] } else { 0 }
-}
 
 // How many bytes a comma and a number take.
 fn field_size(value: u32) -> usize

@@ -2,8 +2,10 @@
 ghost use Prim.Native.Nat.{_≤_, _<_};
 use model::EventSet;
 use model::Network;
+use model::greater;
 use model::less;
 use model::lesser;
+use model::value_at;
 
 pub enum Method {
     RangeQuery,
@@ -11,22 +13,25 @@ pub enum Method {
     NeighborSharing,
 }
 
-// What the choice goes by: the events of a set, the edges that have any, the thresholds, how many of these are shorter than an edge
-// and how many as long as all edges together, and the events in reach of one by the short ones.
+// What the choice goes by: the events of a set, how many in a hundred of them may be at different offsets, the edges that have any, the
+// thresholds, how many of these are shorter than an edge and how many are neither short nor far, what the latter cover, and the events in
+// reach of one by the short ones.
 pub struct Case {
     pub size: u64,
+    pub share: u64,
     pub edges: u64,
     pub thresholds: u64,
     pub short: u64,
-    pub far: u64,
+    pub middle: u64,
+    pub covered: u64,
     pub near: u64,
 }
 
 // A flag for each edge number, which begin with 1.
 const FLAGS: usize = Network::MAX_EDGES + 1;
 
-// Where runs have fewer events the range query takes these one by one.
-const LONG: u64 = 32;
+// Two edges are taken to lie up to so many lengths apart, any distance as often as another: a threshold of so many is far.
+const APART: u64 = 7;
 
 // A number, cut off: so small that a few products can be added up.
 fn small(number: u64) -> u64
@@ -57,25 +62,11 @@ fn count_edges(edges: &[u32], most: usize, flags: &mut [u8]) -> usize {
     count
 }
 
-// An entry of a list, 0 behind its end.
+// An entry of a list as a number to reckon with, 0 behind its end.
 fn entry(list: &[u32], k: usize) -> u64
     ensures { λ r. ⌜ r < 4294967296 ⌝ }
 {
-    if list.len() <= k {
-        return 0;
-    }
-    list[k] as u64
-}
-
-// How long all edges are together, so many as there may be.
-fn sum_of_lengths(lengths: &[u32]) -> u64 {
-    let mut sum: u64 = 0;
-    let mut k = 0;
-    while k < Network::MAX_EDGES {
-        sum += entry(lengths, k);
-        k += 1;
-    }
-    sum
+    value_at(list, k) as u64
 }
 
 // The length of the edge of an event, 0 where there is none.
@@ -134,20 +125,42 @@ fn near_events(size: u64, edges: u64, reach: u64) -> u64 {
     lesser(size, 3 * product(size / edges, 10 + small(reach)) / 20)
 }
 
+// How many in a hundred events of a set may be at different offsets: an edge has one offset more than metres.
+fn share_of(size: u64, edges: u64, length: u64) -> u64 {
+    if size == 0 {
+        return 0;
+    }
+    100 * lesser(size, product(edges, small(length) + 1)) / size
+}
+
+// What the middle thresholds cover, in tenths of an edge: up to the last of them, from a length before the first, and nothing short.
+fn covered_by(thresholds: &[u32], short: usize, within: usize, length: u64) -> u64 {
+    if length == 0 {
+        return 0;
+    }
+    if within <= short {
+        return 0;
+    }
+    let start = greater(less(entry(thresholds, short), length), length);
+    10 * less(entry(thresholds, within - 1), start) / length
+}
+
 fn case_of(lengths: &[u32], sets: &[u32], edges: &[u32], thresholds: &[u32]) -> Case {
     let size = edges.len() / (validate::greatest_set(sets) as usize + 1);
     let mut flags = [0u8; FLAGS];
     let occupied = count_edges(edges, size, &mut flags) as u64;
     let length = mean_length(lengths, edges);
     let short = count_below(thresholds, length);
-    let within = count_below(thresholds, sum_of_lengths(lengths));
+    let within = count_below(thresholds, APART * lesser(length, 4294967296));
     let reach = reach_of(thresholds, short, length);
     Case {
         size: size as u64,
+        share: share_of(size as u64, occupied, length),
         edges: occupied,
         thresholds: thresholds.len() as u64,
         short: short as u64,
-        far: less(thresholds.len() as u64, within as u64),
+        middle: less(within as u64, short as u64),
+        covered: covered_by(thresholds, short, within, length),
         near: near_events(size as u64, occupied, reach),
     }
 }
@@ -155,11 +168,6 @@ fn case_of(lengths: &[u32], sets: &[u32], edges: &[u32], thresholds: &[u32]) -> 
 // Thresholds that are not short.
 fn long(c: Case) -> u64 {
     less(c.thresholds, c.short)
-}
-
-// Thresholds between a short one and a far one: with these an event may reach a part of any edge.
-fn middle(c: Case) -> u64 {
-    less(long(c), c.far)
 }
 
 // How many edges are taken beside one for each event on it.
@@ -172,36 +180,34 @@ fn edges_for_each(c: Case) -> u64
     small(product(c.edges, c.edges) / c.size)
 }
 
-// How many fifths of the pairs that are not near the range query takes one by one: with each middle threshold one, and two where
-// rows are too short to be taken as a whole.
-fn fifths(c: Case) -> u64
-    ensures { λ r. ⌜ r ≤ 5 ⌝ }
+// What two edges cost to be taken in hand, with every threshold.
+fn in_hand(c: Case) -> u64
+    ensures { λ r. ⌜ r ≤ 17179869184 ⌝ }
 {
-    if c.size < product(LONG, c.edges) {
-        return lesser(product(2, middle(c)), 5);
-    }
-    lesser(middle(c), 5)
+    4 * product(edges_for_each(c), 14 + small(c.thresholds))
 }
 
 // What a method takes for each event, in tenths of a nanosecond, measured (docs/BENCHMARKS.md). The range query takes the near pairs
-// one by one, and of the others some fifths.
+// one by one, and of the others those in what the middle thresholds cover, a length for each at most.
 fn query_time(c: Case) -> u64 {
-    let others = product(less(c.size, c.near), fifths(c)) / 5;
-    11 * (small(c.near) + others) + 70 * edges_for_each(c)
+    let tenths = lesser(lesser(product(10, c.middle), c.covered), 10 * APART);
+    let others = product(less(c.size, c.near), tenths) / (10 * APART);
+    9 * (small(c.near) + others) + 30 * edges_for_each(c)
 }
 
-// Count augmentation looks up each short threshold on the event's edge and each middle one on every edge.
+// Count augmentation looks up each short threshold on the event's edge, once for events at one offset, and each middle one on every edge.
 fn augmentation_time(c: Case) -> u64 {
-    let looked_up = 400 * small(c.short) + 70 * small(long(c)) + 10 * product(middle(c), c.edges);
-    looked_up + 10 * product(edges_for_each(c), 11 + small(c.thresholds))
+    let looked_up = 37 * product(c.short, c.share) / 10 + 15 * small(c.short);
+    looked_up + 5 * product(c.middle, c.edges) + in_hand(c)
 }
 
-// Neighbour sharing sweeps the event's edge with each threshold, up to four more with each short one and all with each other one.
+// Neighbour sharing sweeps the event's edge with each threshold, up to two more with each short one and all with each other one, where
+// cursors are moved once for events at one offset.
 fn sharing_time(c: Case) -> u64 {
     let next = less(c.edges, 1);
-    let swept = product(c.short, lesser(next, 4)) + product(long(c), next);
-    let on_edges = 90 * small(c.thresholds) + 40 * swept;
-    on_edges + 10 * product(edges_for_each(c), 11 + small(c.thresholds))
+    let swept = product(c.short, lesser(next, 2)) + product(long(c), next);
+    let moved = 110 * product(c.thresholds, c.share) + 15 * product(swept, c.share);
+    moved / 100 + 15 * (small(c.thresholds) + swept) + in_hand(c)
 }
 
 // The method that should be fastest. Sets are of one size.

@@ -31,7 +31,7 @@ struct Case {
 }
 
 #[rustfmt::skip]
-const CASES: [Case; 24] = [
+const CASES: [Case; 27] = [
     Case { what: "tiny", nodes: 4, legs: 4, longest: 9, sets: 3, per_set: 4, on_legs: 0, thresholds: 4, spread: Even },
     Case { what: "reports 0", nodes: 512, legs: 1_024, longest: 999, sets: 1, per_set: 900, on_legs: 0, thresholds: 64, spread: Even },
     Case { what: "reports 1", nodes: 512, legs: 1_024, longest: 999, sets: 1, per_set: 1_000, on_legs: 0, thresholds: 64, spread: Even },
@@ -43,11 +43,14 @@ const CASES: [Case; 24] = [
     Case { what: "legs 3", nodes: 512, legs: 1_024, longest: 999, sets: 1, per_set: 5_000, on_legs: 0, thresholds: 64, spread: Even },
     Case { what: "thresholds 1", nodes: 512, legs: 1_024, longest: 999, sets: 1, per_set: 5_000, on_legs: 0, thresholds: 1, spread: Even },
     Case { what: "thresholds 2", nodes: 512, legs: 1_024, longest: 999, sets: 1, per_set: 5_000, on_legs: 0, thresholds: 8, spread: Even },
+    Case { what: "thresholds 3", nodes: 512, legs: 1_024, longest: 9, sets: 1, per_set: 6_600, on_legs: 0, thresholds: 8, spread: Far },
     Case { what: "far threshold 1", nodes: 512, legs: 1_024, longest: 9, sets: 1, per_set: 6_600, on_legs: 0, thresholds: 64, spread: Far },
     Case { what: "far threshold 2", nodes: 512, legs: 1_024, longest: 999, sets: 1, per_set: 5_000, on_legs: 0, thresholds: 64, spread: Far },
     Case { what: "far threshold 3", nodes: 512, legs: 1_024, longest: 999, sets: 1, per_set: 6_500, on_legs: 9, thresholds: 64, spread: Far },
     Case { what: "short thresholds 1", nodes: 512, legs: 1_024, longest: 999, sets: 1, per_set: 5_000, on_legs: 0, thresholds: 64, spread: Short },
     Case { what: "short thresholds 2", nodes: 512, legs: 1_024, longest: 999, sets: 1, per_set: 6_500, on_legs: 9, thresholds: 64, spread: Short },
+    Case { what: "short thresholds 3", nodes: 512, legs: 1_024, longest: 9, sets: 1, per_set: 8_192, on_legs: 9, thresholds: 8, spread: Short },
+    Case { what: "short thresholds 4", nodes: 512, legs: 1_024, longest: 999_999, sets: 1, per_set: 4_000, on_legs: 9, thresholds: 64, spread: Short },
     Case { what: "32 sets", nodes: 512, legs: 1_024, longest: 999, sets: 32, per_set: 155, on_legs: 0, thresholds: 64, spread: Even },
     Case { what: "few legs 1", nodes: 512, legs: 1_024, longest: 9, sets: 1, per_set: 8_192, on_legs: 9, thresholds: 64, spread: Even },
     Case { what: "few legs 2", nodes: 512, legs: 1_024, longest: 9, sets: 1, per_set: 8_192, on_legs: 9, thresholds: 8, spread: Even },

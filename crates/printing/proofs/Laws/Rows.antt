@@ -8,7 +8,7 @@ use native.Mathlib.Numerals.{add-one}
 use native.Mathlib.Omega.{arith}
 use borrow.Author.Tests.{le-leb}
 use lib.Dec.{leb}
-use lib.ListN.{length, getD, length-append, List·getD-eq-default}
+use lib.ListN.{length, getD, length-append}
 use Rattle.printing.specs.Bytes.{row}
 use Rattle.printing.specs.Answers.{envelopeAt, rows}
 use Rattle.printing.specs.Writing.{Room, Put, envelopeIf}
@@ -19,10 +19,6 @@ same-envelope : (comparisons : Bool) (lower upper : List ℕ) (k : ℕ) → enve
 unfolding envelopeAt envelopeIf
 same-envelope true lower upper k = refl
 same-envelope false lower upper k = refl
-
--- behind the end of a list there is 0
-pub behind-end : (l : List ℕ) (k : ℕ) → length l ≤ k → 0 ≡ getD l k 0
-behind-end l k h = sym (List·getD-eq-default l 0 h)
 
 module _ (comparisons : Bool) (ts observed lower upper : List ℕ) where
   -- the row of threshold number k

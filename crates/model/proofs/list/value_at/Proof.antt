@@ -1,8 +1,9 @@
 -- Behind the end of a list `getD` gives 0 too.
-use Rattle.printing.proofs.Laws.Rows.{behind-end}
+use mathlib.Core.Path.{sym}
+use lib.ListN.{List·getD-eq-default}
 use borrow.Author.Needs.{needs}
-use Rattle.printing.proofs.table.value_at.Statement.{statement}
-use Rattle.printing.proofs.table.value_at.Tie as tie
+use Rattle.model.proofs.list.value_at.Statement.{statement}
+use Rattle.model.proofs.list.value_at.Tie as tie
 
 mul-result : tie.Need-mul-result
 mul-result c = search needs
@@ -14,7 +15,7 @@ returns : tie.Need-returns
 returns c = search needs
 
 returns-2 : tie.Need-returns-2
-returns-2 c = behind-end (c .before .args .column .now) (c .before .args .k) (c .if1 .left)
+returns-2 c = sym (List·getD-eq-default (c .before .args .list .now) 0 (c .if1 .left))
 
 pub value-at-spec : {M : Type 1} → statement M
 value-at-spec = tie.close (tie.spec mul-result shared-slice-read-result returns returns-2)

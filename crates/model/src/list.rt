@@ -1,6 +1,14 @@
-// Equal entries that stand in a row.
+// Lists of numbers: an entry, and equal entries that stand in a row.
 ghost use mathlib.Core.Path.{_≡_};
+ghost use lib.ListN.{getD};
 ghost use Rattle.model.specs.Counting.{equalsEnd};
+
+// An entry of a list, 0 behind its end.
+pub fn value_at(list: &[u32], k: usize) -> u32
+    ensures { λ r. ⌜ r ≡ getD (now (list .entry)) k 0 ⌝ }
+{
+    if k < list.len() { list[k] } else { 0 }
+}
 
 // The place behind the entries that, from a place on, equal the one there; the place itself behind the end of the list.
 pub fn equals_end(list: &[u32], from: usize) -> usize

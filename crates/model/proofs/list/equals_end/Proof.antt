@@ -6,8 +6,8 @@ use lib.ListN.{length, drop}
 use Rattle.model.specs.Counting.{equalsInFront, equalsEnd}
 use Rattle.model.proofs.Laws.Equals.{end-behind, end-begins, end-later, end-here, end-last}
 use borrow.Author.Needs.{needs}
-use Rattle.model.proofs.equals.equals_end.Statement.{statement}
-use Rattle.model.proofs.equals.equals_end.Tie as tie
+use Rattle.model.proofs.list.equals_end.Statement.{statement}
+use Rattle.model.proofs.list.equals_end.Tie as tie
 
 abbrev Inv-loop : tie.InvT-loop
 Inv-loop list from number k₀ k = (k ≤ length list) × (k + equalsInFront number (drop k list) ≡ equalsEnd list from)
