@@ -3,7 +3,8 @@
 //! both programs in each by turns, checks that they print the same bytes, and
 //! prints the least time on the processor and the peak memory of each. The
 //! plain one runs by whichever of its methods is fastest in that folder. WORD
-//! leaves only the lines that have it.
+//! leaves only the lines that have it; with the word `limits` the folders are
+//! others, some 300 at the limits, each for a shorter time.
 
 use std::fs::{self, File};
 use std::io;
@@ -61,9 +62,37 @@ const CASES: [Case; 27] = [
     Case { what: "one leg 2", nodes: 512, legs: 1_024, longest: 9, sets: 32, per_set: 240, on_legs: 1, thresholds: 64, spread: Even },
 ];
 
+/// What a line of this word is of.
+const LIMITS: &str = "limits";
+
+/// As many reports as a text holds on one leg, some and all of them, of every
+/// length, with few and many thresholds of every spread.
+fn limits() -> Vec<Case> {
+    let mut cases = Vec::new();
+    for on_legs in [1, 3, 9, 30, 100, 0] {
+        for thresholds in [1, 2, 4, 8, 16, 64] {
+            for spread in [Even, Short, Far] {
+                for (longest, per_set) in [(9, if (1..=9).contains(&on_legs) { 8_192 } else { 6_600 }), (999, 5_000), (999_999, 4_000)] {
+                    cases.push(Case { what: LIMITS, nodes: 512, legs: 1_024, longest, sets: 1, per_set, on_legs, thresholds, spread });
+                }
+            }
+        }
+    }
+    cases
+}
+
+/// The first cell of a case's line.
+fn label(case: &Case) -> String {
+    match case.what {
+        LIMITS => format!("{LIMITS}, legs of {}, {}", case.longest, case.spread.name()),
+        what => what.to_string(),
+    }
+}
+
 /// The folder of a case, filled. The same bytes every time.
 fn lay(folder: &Path, case: &Case) -> io::Result<PathBuf> {
-    let folder = folder.join(case.what.replace(' ', "_"));
+    let name = format!("{} {} {}", label(case), case.on_legs, case.thresholds);
+    let folder = folder.join(name.replace([' ', ','], "_"));
     fs::create_dir_all(&folder)?;
     let mut rng = Rng::new(2026);
     let network = random::ring_network(&mut rng, case.nodes, case.legs, case.longest);
@@ -133,13 +162,13 @@ fn best(plain: &Path, folder: &Path) -> io::Result<Method> {
     Ok(fastest.1)
 }
 
-/// Both by turns, at least 5 and up to two seconds: the least time and peak of
-/// each.
-fn compare(programs: [(&Path, Option<Method>); 2], folder: &Path) -> io::Result<[Run; 2]> {
+/// Both by turns, at least 5 and up to so many milliseconds: the least time and
+/// peak of each.
+fn compare(programs: [(&Path, Option<Method>); 2], folder: &Path, millis: f64) -> io::Result<[Run; 2]> {
     let outs = [folder.join("proved.out"), folder.join("plain.out")];
     let mut least = [Run { time: f64::MAX, peak: i64::MAX }; 2];
     let (mut turns, mut spent) = (0, 0.0);
-    while turns < 5 || (spent < 2_000.0 && turns < 100) {
+    while turns < 5 || (spent < millis && turns < 100) {
         for k in 0..2 {
             let (program, method) = programs[k];
             let one = run(program, method, folder, &outs[k])?;
@@ -164,14 +193,18 @@ fn main() -> io::Result<()> {
     let (proved, plain) = (fs::canonicalize(proved)?, fs::canonicalize(plain)?);
     println!("| Folder | nodes, legs | sets of reports | on legs | thresholds | proved, ms | plain, ms | plain by | ratio | proved, peak KB | plain, peak KB |");
     println!("|---|---|---|---|---|---|---|---|---|---|---|");
-    for case in CASES.iter().filter(|case| case.what.contains(&word)) {
+    let (cases, millis) = match word.as_str() {
+        LIMITS => (limits(), 400.0),
+        _ => (CASES.into_iter().filter(|case| case.what.contains(&word)).collect(), 2_000.0),
+    };
+    for case in &cases {
         let folder = lay(Path::new(&folder), case)?;
         let method = best(&plain, &folder)?;
-        let [a, b] = compare([(&proved, None), (&plain, Some(method))], &folder)?;
+        let [a, b] = compare([(&proved, None), (&plain, Some(method))], &folder, millis)?;
         let on_legs = if case.on_legs == 0 { case.legs } else { case.on_legs };
         println!(
             "| {} | {}, {} | {} of {} | {} | {} | {:.2} | {:.2} | {} | {:.2} | {} | {} |",
-            case.what, case.nodes, case.legs, case.sets, case.per_set, on_legs, case.thresholds,
+            label(case), case.nodes, case.legs, case.sets, case.per_set, on_legs, case.thresholds,
             a.time, b.time, method.name(), a.time / b.time, a.peak, b.peak,
         );
     }
