@@ -1,4 +1,5 @@
 // Laying out a set: its events sorted by edge and then by offset; and the events on one edge.
+mod insertion;
 mod keys;
 mod laying_out;
 mod merge_sort;
