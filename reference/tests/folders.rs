@@ -294,7 +294,9 @@ fn random_folders() {
     for _ in 0..turns {
         let length = rng.pick(&[1, 3, 9, 40, 5_000, MAX_LENGTH], 9);
         let mut input = random::network(&mut rng, 9, 14, length);
-        let (sets, per_set, on_legs) = (rng.between(1, 6), rng.index(12), rng.index(5));
+        // Few reports, which go by the range query, or enough for a choice.
+        let (sets, per_set) = if rng.once_in(8) { (rng.between(1, 3), 300 + rng.index(300)) } else { (rng.between(1, 6), rng.index(12)) };
+        let on_legs = rng.index(5);
         let mut reports = random::reports(&mut rng, &input, sets, per_set, on_legs);
         let mut thresholds = random::thresholds(&mut rng, 64, length.saturating_mul(4));
         // None, one or several of the files are damaged, in their numbers or

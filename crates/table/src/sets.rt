@@ -28,7 +28,7 @@ fn pair_counts(
 ) -> Check
     ensures { λ r. ⌜ CountsAnswered (network nodes (now (firsts .entry)) (now (seconds .entry)) (now (lengths .entry))) (now (sets .entry)) (now (edges .entry)) (now (offsets .entry)) (now (thresholds .entry)) (now (answers .entry)) r (now (answers .exit)) ⌝ }
 {
-    match method_for(lengths, sets, edges, thresholds) {
+    match method_for(nodes, firsts, seconds, lengths, sets, edges, thresholds) {
         Method::RangeQuery => range_query::counts(
             nodes,
             firsts,

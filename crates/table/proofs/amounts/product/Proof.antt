@@ -2,8 +2,8 @@
 use native.Mathlib.Nat.{mul-le-mul}
 use native.Mathlib.Omega.{arith}
 use borrow.Author.Needs.{needs}
-use Rattle.table.proofs.method.product.Statement.{statement}
-use Rattle.table.proofs.method.product.Tie as tie
+use Rattle.table.proofs.amounts.product.Statement.{statement}
+use Rattle.table.proofs.amounts.product.Tie as tie
 
 small-requires : tie.Need-small-requires
 small-requires c κs = search needs
