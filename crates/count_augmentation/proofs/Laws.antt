@@ -4,6 +4,7 @@ pub mod Halving
 pub mod Reach
 pub mod Pairs
 pub mod Near
+pub mod Apart
 pub mod Storage
 pub mod Meeting
 pub mod Stored

@@ -2,17 +2,18 @@
 use mathlib.Core.Bool.{cond}
 use mathlib.Core.List.{List}
 use mathlib.Core.Path.{_≡_}
-use Prim.Native.Nat.{ℕ, _≤_, min}
+use Prim.Native.Nat.{ℕ, pred, _+_, _*_, _≤_, _<_, min}
 use lib.Dec.{eqb}
 use lib.ListN.{length, getD}
 use Rattle.model.specs.Counting.{sumBelow}
-use Rattle.model.specs.Limits.{maxEvents}
+use Rattle.model.specs.Limits.{maxNodes, maxEvents}
 use Rattle.model.specs.Network.{Network, first, second, size}
 use Rattle.prepare.specs.Prepared.{entry}
 use Rattle.count_augmentation.specs.Reach.{farthest, reached, lookedUp, Run}
 use Rattle.prepare.specs.Offsets.{OnEdge}
 use Rattle.count_augmentation.specs.Storing.{NumbersStored}
 use Rattle.count_augmentation.specs.declared.pairs.EdgePair.{EdgePair}
+use Rattle.count_augmentation.specs.declared.pairs.Rows.{Rows}
 
 -- the entry of the lesser of two ways, and of the least of four; an entry of 0 is none
 unfoldable pub lesserEntry : ℕ → ℕ → ℕ
@@ -20,6 +21,42 @@ lesserEntry a b = cond (eqb a 0) b (cond (eqb b 0) a (min a b))
 
 unfoldable pub leastEntry : ℕ → ℕ → ℕ → ℕ → ℕ
 leastEntry ff fs sf ss = lesserEntry (lesserEntry ff fs) (lesserEntry sf ss)
+
+-- the rows of two nodes in a square table
+unfoldable pub rowsOf : ℕ → ℕ → ℕ → Rows
+rowsOf nodes u v = record { first = pred u * nodes; second = pred v * nodes }
+
+-- a row's entry of a node, and that it lies within the table
+abbrev pub inRow : List ℕ → ℕ → ℕ → ℕ
+inRow table row v = getD table (row + pred v) 0
+
+pub record InRow (table : List ℕ) (row v : ℕ) : Type 0 where
+  pub from-one : 1 ≤ v
+  pub in-table : row + pred v < length table
+
+-- those of two nodes in two rows do
+pub record InRows (table : List ℕ) (rows : Rows) (u v : ℕ) : Type 0 where
+  pub ff : InRow table (rows .first) u
+  pub fs : InRow table (rows .first) v
+  pub sf : InRow table (rows .second) u
+  pub ss : InRow table (rows .second) v
+
+-- all four are 0, which stands for no way
+pub record Apart (table : List ℕ) (rows : Rows) (u v : ℕ) : Type 0 where
+  pub ff : inRow table (rows .first) u ≡ 0
+  pub fs : inRow table (rows .first) v ≡ 0
+  pub sf : inRow table (rows .second) u ≡ 0
+  pub ss : inRow table (rows .second) v ≡ 0
+
+-- the ends of an edge are nodes, of which there are not too many
+pub record EndsRead (nodes : ℕ) (firsts seconds : List ℕ) (i : ℕ) : Type 0 where
+  pub in-firsts : i < length firsts
+  pub in-seconds : i < length seconds
+  pub first-from : 1 ≤ getD firsts i 0
+  pub first-to : getD firsts i 0 ≤ nodes
+  pub second-from : 1 ≤ getD seconds i 0
+  pub second-to : getD seconds i 0 ≤ nodes
+  pub nodes-to : nodes ≤ maxNodes
 
 -- two edges, by their indices, with the table entries between their ends
 unfoldable pub edgePair : Network → List ℕ → ℕ → ℕ → EdgePair

@@ -2,18 +2,19 @@
 ghost use mathlib.Core.Bool.{true};
 ghost use mathlib.Core.List.{List};
 ghost use mathlib.Core.Path.{_≡_};
-ghost use Prim.Native.Nat.{ℕ, pred, _+_, _*_, _≤_, _<_, max};
+ghost use Prim.Native.Nat.{ℕ, pred, _*_, _≤_, _<_, max};
 ghost use lib.ListN.{length, getD};
-ghost use Rattle.model.specs.Limits.{maxEvents, maxPairs};
+ghost use Rattle.model.specs.Limits.{maxNodes, maxEvents, maxPairs};
 ghost use Rattle.model.specs.Network.{network};
-ghost use Rattle.prepare.specs.EndTable.{EndTable, TableEntry};
-ghost use Rattle.count_augmentation.specs.Pairs.{lesserEntry, leastEntry, edgePair, toFirst, toSecond, reachedBy, reachedPairs, lookedUpBy, lookedUpPairs, TwoRuns};
+ghost use Rattle.prepare.specs.EndTable.{EndTable};
+ghost use Rattle.count_augmentation.specs.Pairs.{lesserEntry, leastEntry, rowsOf, inRow, EndsRead, InRow, InRows, Apart, edgePair, toFirst, toSecond, reachedBy, reachedPairs, lookedUpBy, lookedUpPairs, TwoRuns};
 ghost use Rattle.count_augmentation.specs.Reach.{Run};
 ghost use Rattle.count_augmentation.specs.Storing.{NumbersStored, storedLast};
 use crate::reach::count_reached;
 use crate::reach::reach;
 use crate::reach::reach_by;
 use model::equals_end;
+use model::greater;
 
 // Two edges: their lengths, the table entries from each end of the one to each end of the other, whether they are one edge, and the
 // entry of the least way between them.
@@ -47,12 +48,57 @@ fn least_entry(ff: u32, fs: u32, sf: u32, ss: u32) -> u32
     lesser_entry(lesser_entry(ff, fs), lesser_entry(sf, ss))
 }
 
-// The table entry of two nodes.
-fn entry(nodes: u32, table: &[u32], u: u32, v: u32) -> u32
-    requires { ⌜ TableEntry nodes (now table) u v ⌝ }
-    ensures { λ r. ⌜ r ≡ getD (now (table .entry)) (pred u * nodes + pred v) 0 ⌝ }
+// Where the table has the rows of an edge's two ends.
+pub struct Rows {
+    pub first: usize,
+    pub second: usize,
+}
+
+// Where it has the row of a node.
+fn row_of(nodes: u32, u: u32) -> usize
+    requires { ⌜ (1 ≤ u) × (u ≤ nodes) × (nodes ≤ maxNodes) ⌝ }
+    ensures { λ r. ⌜ r ≡ pred u * nodes ⌝ }
 {
-    table[(u as usize - 1) * (nodes as usize) + (v as usize - 1)]
+    (u as usize - 1) * (nodes as usize)
+}
+
+// The rows of an edge by its index.
+pub(crate) fn rows_of(nodes: u32, firsts: &[u32], seconds: &[u32], i: usize) -> Rows
+    requires { ⌜ EndsRead nodes (now firsts) (now seconds) i ⌝ }
+    ensures { λ r. ⌜ r ≡ rowsOf nodes (getD (now (firsts .entry)) i 0) (getD (now (seconds .entry)) i 0) ⌝ }
+{
+    let first = row_of(nodes, firsts[i]);
+    let second = row_of(nodes, seconds[i]);
+    Rows { first, second }
+}
+
+// A row's entry of a node.
+fn entry_in(table: &[u32], row: usize, v: u32) -> u32
+    requires { ⌜ InRow (now table) row v ⌝ }
+    ensures { λ r. ⌜ r ≡ inRow (now (table .entry)) row v ⌝ }
+{
+    table[row + (v as usize - 1)]
+}
+
+// No end of one edge has an entry for an end of the other: none is within the greatest threshold of it. All four are read before
+// anything is tested.
+pub(crate) fn are_apart(
+    rows: Rows,
+    firsts: &[u32],
+    seconds: &[u32],
+    table: &[u32],
+    j: usize,
+) -> bool
+    requires { ⌜ (j < length (now firsts)) × (j < length (now seconds)) × InRows (now table) rows (getD (now firsts) j 0) (getD (now seconds) j 0) ⌝ }
+    ensures { λ r. ⌜ (r ≡ true → Apart (now (table .entry)) rows (getD (now (firsts .entry)) j 0) (getD (now (seconds .entry)) j 0)) ⌝ }
+{
+    let first = firsts[j];
+    let second = seconds[j];
+    let ff = entry_in(table, rows.first, first) as u64;
+    let fs = entry_in(table, rows.first, second) as u64;
+    let sf = entry_in(table, rows.second, first) as u64;
+    let ss = entry_in(table, rows.second, second) as u64;
+    greater(greater(ff, fs), greater(sf, ss)) == 0
 }
 
 // Two edges by their indices.
@@ -69,16 +115,15 @@ pub(crate) fn edge_pair(
     requires { ⌜ (i < length (now lengths)) × (j < length (now lengths)) ⌝ }
     ensures { λ r. ⌜ r ≡ edgePair (network nodes (now (firsts .entry)) (now (seconds .entry)) (now (lengths .entry))) (now (table .entry)) i j ⌝ }
 {
-    let first = firsts[i];
-    let second = seconds[i];
-    let other_first = firsts[j];
-    let other_second = seconds[j];
+    let rows = rows_of(nodes, firsts, seconds, i);
+    let first = firsts[j];
+    let second = seconds[j];
     let size = lengths[i];
     let other = lengths[j];
-    let ff = entry(nodes, table, first, other_first);
-    let fs = entry(nodes, table, first, other_second);
-    let sf = entry(nodes, table, second, other_first);
-    let ss = entry(nodes, table, second, other_second);
+    let ff = entry_in(table, rows.first, first);
+    let fs = entry_in(table, rows.first, second);
+    let sf = entry_in(table, rows.second, first);
+    let ss = entry_in(table, rows.second, second);
     let least = least_entry(ff, fs, sf, ss);
     EdgePair {
         size,
@@ -93,7 +138,7 @@ pub(crate) fn edge_pair(
 }
 
 // No route between two edges is within the threshold, nor within a lower one: their events need not be looked at.
-pub(crate) fn is_beyond(g: EdgePair, threshold: u32) -> bool
+fn is_beyond(g: EdgePair, threshold: u32) -> bool
     requires { ⌜ g .least ≡ leastEntry (g .firsts) (g .onward) (g .back) (g .seconds) ⌝ }
     ensures { λ r. ⌜ (r ≡ true → (t : ℕ) → t ≤ threshold → (x : ℕ) (ys : List ℕ) → reachedBy g t x ys ≡ 0) ⌝ }
     ensures { λ r. ⌜ (r ≡ true → (x : ℕ) (ys near-first near-second : List ℕ) → Run (g .other) ys near-first near-second → lookedUpBy g threshold x ys near-first near-second ≡ 0) ⌝ }

@@ -9,9 +9,10 @@ ghost use Rattle.count_augmentation.specs.Runs.{RunStored, RunsStored};
 ghost use Rattle.prepare.specs.Totals.{Steps, ReadyAt, UpTo, AddedAt, EarlierAdded, Totalled};
 use crate::look_up::count_all;
 use crate::pairs::EdgePair;
+use crate::pairs::are_apart;
 use crate::pairs::count_run;
 use crate::pairs::edge_pair;
-use crate::pairs::is_beyond;
+use crate::pairs::rows_of;
 use crate::runs::bound;
 use crate::runs::edge_index;
 
@@ -54,8 +55,7 @@ fn add_counts(
     }
 }
 
-// The same for two runs of a set, b no later than a: left at once where no route between their edges is within the greatest
-// threshold.
+// The same for two runs of a set, b no later than a.
 fn add_runs(
     nodes: u32,
     firsts: &[u32],
@@ -82,10 +82,6 @@ fn add_runs(
     let i = edge_index(edges, from);
     let j = edge_index(edges, other_from);
     let g = edge_pair(nodes, firsts, seconds, lengths, table, i, j);
-    let greatest = threshold_at(thresholds, thresholds.len() - 1);
-    if is_beyond(g, greatest) {
-        return;
-    }
     add_counts(
         g,
         &offsets[from..to],
@@ -97,7 +93,8 @@ fn add_runs(
     );
 }
 
-// The same for run a and every earlier one of its set, of which r is the first.
+// The same for run a and every earlier one of its set, of which r is the first. Those on an edge apart from that of a are passed
+// over.
 fn add_earlier(
     nodes: u32,
     firsts: &[u32],
@@ -117,24 +114,29 @@ fn add_earlier(
     requires { ⌜ ReadyAt (network nodes (now firsts) (now seconds) (now lengths)) (now table) (now edges) (now offsets) (now bounds) (now thresholds) r (suc a) × (r ≤ a) × RunsStored (now offsets) (now bounds) (now «near_first») (now «near_second») r (suc a) × Steps (now thresholds) × UpTo (length (now thresholds)) 4611686018427387904 (now totals) ⌝ }
     ensures { λ _. ⌜ EarlierAdded (network nodes (now (firsts .entry)) (now (seconds .entry)) (now (lengths .entry))) (now (edges .entry)) (now (offsets .entry)) (now (bounds .entry)) (now (thresholds .entry)) r a (now (totals .entry)) (now (totals .exit)) ⌝ }
 {
+    let i = edge_index(edges, bound(bounds, a));
+    let rows = rows_of(nodes, firsts, seconds, i);
     let mut b = r;
     while b < a {
-        add_runs(
-            nodes,
-            firsts,
-            seconds,
-            lengths,
-            table,
-            edges,
-            offsets,
-            bounds,
-            near_first,
-            near_second,
-            thresholds,
-            a,
-            b,
-            totals,
-        );
+        let j = edge_index(edges, bound(bounds, b));
+        if !are_apart(rows, firsts, seconds, table, j) {
+            add_runs(
+                nodes,
+                firsts,
+                seconds,
+                lengths,
+                table,
+                edges,
+                offsets,
+                bounds,
+                near_first,
+                near_second,
+                thresholds,
+                a,
+                b,
+                totals,
+            );
+        }
         b += 1;
     }
 }

@@ -1,26 +1,33 @@
 -- Two runs of a set: what is asked to look the one's events up from the other's, and that the pairs found are theirs.
+use mathlib.Core.Bool.{false}
 use mathlib.Core.List.{List}
 use mathlib.Core.Path.{_≡_, refl, sym, ap, _∙_}
 use Prim.Native.Nat.{ℕ, suc, pred, _+_, _-_, _≤_, _<_}
 use native.Mathlib.Numerals.{add-one}
 use native.Mathlib.Omega.{arith}
+use borrow.Author.Tests.{ne-eqb}
+use lib.Dec.{eqb}
 use lib.ListN.{length, getD, take, drop}
 use Rattle.model.proofs.Laws.Counting.{sum-below-cong}
+use Rattle.model.specs.Distance.{code}
 use Rattle.model.specs.Events.{event}
 use Rattle.model.specs.Limits.{maxEvents}
 use Rattle.model.specs.Location.{at-first, at-second, endNode}
-use Rattle.model.specs.Network.{Network, edges, size}
+use Rattle.model.specs.Network.{Network, edges, first, second, size}
+use Rattle.model.specs.NodeDistance.{boundedDistance}
 use Rattle.prepare.proofs.Laws.RunPairs.{run-is, run-codes, part-of-length}
-use Rattle.prepare.proofs.Laws.Totals.{to-greatest}
+use Rattle.prepare.specs.Prepared.{entry}
 use Rattle.prepare.specs.RunPairs.{edgeOf, partOf, runPairs, RunsReady}
-use Rattle.count_augmentation.specs.Pairs.{leastEntry, edgePair, reachedBy, reachedPairs, TwoRunsStored}
+use Rattle.count_augmentation.specs.Pairs.{edgePair, rowsOf, reachedBy, reachedPairs, Apart, TwoRunsStored}
 use Rattle.count_augmentation.specs.Reach.{reached}
 use Rattle.count_augmentation.specs.Runs.{RunStored}
 use Rattle.prepare.specs.Offsets.{OnEdge}
-use Rattle.prepare.specs.Totals.{Steps, ReadyAt, AddedAt}
+use Rattle.prepare.specs.Totals.{ReadyAt, AddedAt}
 use Rattle.count_augmentation.specs.declared.pairs.EdgePair.{EdgePair}
+use Rattle.count_augmentation.specs.declared.pairs.Rows.{Rows}
+use Rattle.count_augmentation.proofs.Laws.Apart.{own-entry, no-way}
 use Rattle.count_augmentation.proofs.Laws.Near.{reached-within}
-use Rattle.count_augmentation.proofs.Laws.Pairs.{no-pairs}
+use Rattle.count_augmentation.proofs.Laws.Pairs.{no-pairs, none-by-least}
 use Rattle.model.proofs.Laws.Arrival.{count-places}
 
 -- what is read for runs a and b: where each begins and ends, and the index of its edge
@@ -75,6 +82,22 @@ module _ {net : Network} {table es xs bounds : List ℕ} {r q t : ℕ} (w : Runs
         (λ k h. count-places _ _ (partOf bounds b xs)
         (λ l m. reached-within net (w .ends) t (w .bound) (w .within-bound) (event (edgeOf es bounds a) (getD (partOf bounds a xs) k 0)) (event (edgeOf es bounds b) (getD (partOf bounds b xs) l 0)) (run-is w a ha la .is-event k h) (run-is w b hb lb .is-event l m) _ _ _ _ (run-codes w a b ha la hb lb at-first at-first) (run-codes w a b ha la hb lb at-first at-second) (run-codes w a b ha la hb lb at-second at-first) (run-codes w a b ha la hb lb at-second at-second)))
 
+    -- there are none where no end of the one edge has an entry for an end of the other; these are two then, for a node has its own
+    two-edges : entry net table (first net i) (first net j) ≡ 0 → eqb i j ≡ false
+    unfolding endNode
+    two-edges none =
+        ne-eqb i j
+        (λ same.
+        let one : code (boundedDistance net (w .bound) (first net i) (first net j)) ≡ 1 = rw (← same) (own-entry net (w .bound) (first net i)) in
+        absurd (omega (arith, none, run-codes w a b ha la hb lb at-first at-first, one)))
+
+    none-met : Apart table (rowsOf (net .nodes) (first net i) (second net i)) (first net j) (second net j) → 0 ≡ runPairs net es xs bounds t a b
+    unfolding rowsOf edgePair entry
+    none-met off =
+        no-pairs (edgePair net table i j) t (partOf bounds a xs) (partOf bounds b xs)
+        (none-by-least (edgePair net table i j) t t (omega arith) refl (no-way t (off .ff) (off .fs) (off .sf) (off .ss)) (two-edges (off .ff)))
+        ∙ pairs-reached
+
     two-runs : {near-first near-second : List ℕ} → RunStored xs bounds near-first near-second b → TwoRunsStored (edgePair net table i j) (partOf bounds a xs) (partOf bounds b xs) (partOf bounds b near-first) (partOf bounds b near-second)
     unfolding edgePair
     two-runs {near-first} {near-second} stored =
@@ -113,11 +136,6 @@ module _ {net : Network} {table es xs bounds : List ℕ} {r q t : ℕ} (w : Runs
           rw (g-is, read .edge-is, read .other-edge-is, read .from-is, read .to-is, read .other-from-is, read .other-to-is, add-one a, add-one b) at e
           ∙ pairs-reached
 
--- the least way of two edges as they are read
-pub least-is : (net : Network) (table : List ℕ) (e f : ℕ) {g : EdgePair} → g ≡ edgePair net table e f → g .least ≡ leastEntry (g .firsts) (g .onward) (g .back) (g .seconds)
-unfolding edgePair
-least-is net table e f g-is = rw g-is refl
-
 -- at every threshold
 module _ {net : Network} {table es xs bounds ts : List ℕ} {a b : ℕ} (w : ReadyAt net table es xs bounds ts b (suc a)) (order : b ≤ a)
     {from to other-from other-to e f : ℕ} (read : RunsRead es bounds a b from to other-from other-to e f) (g : EdgePair) (g-is : g ≡ edgePair net table e f) where
@@ -127,6 +145,11 @@ module _ {net : Network} {table es xs bounds ts : List ℕ} {a b : ℕ} (w : Rea
   pub runs-added : {old new : List ℕ} → AddedAt (length ts) (λ k. reachedPairs g (getD ts k 0) (take (to - from) (drop from xs)) (take (other-to - other-from) (drop other-from xs))) old new → AddedAt (length ts) (λ k. runPairs net es xs bounds (getD ts k 0) a b) old new
   runs-added {old} found = record { at = λ k h. found .at k h ∙ ap (λ (n : ℕ). getD old k 0 + n) (met-at k h _ refl) }
 
-  -- no route is within the greatest
-  pub runs-apart : (old : List ℕ) → Steps ts → (greatest : ℕ) → greatest ≡ getD ts (length ts - 1) 0 → ((t : ℕ) → t ≤ greatest → (x : ℕ) (ys : List ℕ) → reachedBy g t x ys ≡ 0) → AddedAt (length ts) (λ k. runPairs net es xs bounds (getD ts k 0) a b) old old
-  runs-apart old steps greatest last none = record { at = λ k h. omega (arith, met-at k h 0 (no-pairs g (getD ts k 0) _ _ (none (getD ts k 0) (to-greatest steps greatest last k h)))) }
+-- the same where no end of the one edge has an entry for an end of the other
+module _ {net : Network} {table es xs bounds ts : List ℕ} {r q a b : ℕ} (w : ReadyAt net table es xs bounds ts r q) (ha : r ≤ a) (la : a < q) (hb : r ≤ b) (lb : b < q)
+    {from other-from e f : ℕ} (from-is : from ≡ getD bounds a 0) (edge-is : e ≡ pred (getD es from 0)) (other-from-is : other-from ≡ getD bounds b 0) (other-edge-is : f ≡ pred (getD es other-from 0))
+    {rows : Rows} (rows-are : rows ≡ rowsOf (net .nodes) (first net e) (second net e)) where
+  pub runs-apart : Apart table rows (first net f) (second net f) → (old : List ℕ) → AddedAt (length ts) (λ k. runPairs net es xs bounds (getD ts k 0) a b) old old
+  unfolding edgeOf
+  runs-apart off old =
+      record { at = λ k h. omega (arith, none-met (w .at k h) a b ha la hb lb (rw (rows-are, edge-is, from-is, other-edge-is, other-from-is) at off)) }

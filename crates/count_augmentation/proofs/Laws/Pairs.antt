@@ -1,20 +1,23 @@
 -- Two runs: bounds on what their events reach, and what is looked up for them.
-use mathlib.Core.Bool.{Bool, false}
+use mathlib.Core.Bool.{false}
 use mathlib.Core.List.{List}
 use mathlib.Core.Path.{_≡_, refl, sym, ap, _∙_}
 use Prim.Native.Nat.{ℕ, zero, suc, _+_, _-_, _*_, _≤_, _<_, min, max}
 use native.Mathlib.Nat.{suc-mul, mul-le-mul}
 use native.Mathlib.Omega.{arith}
-use lib.Dec.{eqb·suc-zero}
+use lib.Dec.{eqb, eqb·suc-zero}
 use lib.ListN.{length, getD}
 use Rattle.model.proofs.Laws.Counting.{count-at-most, sum-below-zero, sum-below-cong, sum-below-mono}
 use Rattle.model.specs.Counting.{sumBelow}
 use Rattle.model.specs.Limits.{maxPairs}
+use Rattle.model.specs.Network.{Network, first, second, size}
+use Rattle.prepare.specs.Prepared.{entry}
 use Rattle.prepare.specs.Totals.{AddedAt}
-use Rattle.count_augmentation.specs.Pairs.{lesserEntry, leastEntry, toFirst, toSecond, reachedBy, reachedPairs, lookedUpBy, lookedUpPairs, TwoRuns, TwoRunsStored}
+use Rattle.count_augmentation.specs.Pairs.{lesserEntry, leastEntry, rowsOf, inRow, edgePair, toFirst, toSecond, reachedBy, reachedPairs, lookedUpBy, lookedUpPairs, TwoRuns, TwoRunsStored}
 use Rattle.count_augmentation.specs.Reach.{reachOf, farthest, reached, Run}
 use Rattle.count_augmentation.specs.Storing.{NumbersStored, storedLast}
 use Rattle.count_augmentation.specs.declared.pairs.EdgePair.{EdgePair}
+use Rattle.count_augmentation.specs.declared.pairs.Rows.{Rows}
 use Rattle.count_augmentation.proofs.Laws.Reach.{nothing-reached, nothing-looked-up, whole-up, looked-small, looked-reached}
 
 -- a greater gap reaches no farther
@@ -153,7 +156,8 @@ pub all-reached : {g : EdgePair} {xs ys near-first near-second : List ℕ} {n : 
 all-reached {g} {old = old} ts two added =
     record { at = λ k h. added .at k h ∙ ap (λ (m : ℕ). getD old k 0 + m) (pairs-looked-up g (getD ts k 0) (two .runs) (two .stored)) }
 
--- two edges with equal entries
-pub same-pair : {p q ff fs sf ss ff′ fs′ sf′ ss′ least : ℕ} {same : Bool} → ff ≡ ff′ → fs ≡ fs′ → sf ≡ sf′ → ss ≡ ss′ → least ≡ leastEntry ff fs sf ss → _≡_ {A = EdgePair} (record { size = p; other = q; firsts = ff; onward = fs; back = sf; seconds = ss; same = same; least = least }) (record { size = p; other = q; firsts = ff′; onward = fs′; back = sf′; seconds = ss′; same = same; least = leastEntry ff′ fs′ sf′ ss′ })
-same-pair {p} {q} {same = same} a b c d e =
-    rw (e, a, b, c, d) refl
+-- two edges as they are read
+pub pair-read : (net : Network) (table : List ℕ) (i j : ℕ) {rows : Rows} {ff fs sf ss least : ℕ} → rows ≡ rowsOf (net .nodes) (first net i) (second net i) → ff ≡ inRow table (rows .first) (first net j) → fs ≡ inRow table (rows .first) (second net j) → sf ≡ inRow table (rows .second) (first net j) → ss ≡ inRow table (rows .second) (second net j) → least ≡ leastEntry ff fs sf ss → _≡_ {A = EdgePair} (record { size = size net i; other = size net j; firsts = ff; onward = fs; back = sf; seconds = ss; same = eqb i j; least = least }) (edgePair net table i j)
+unfolding edgePair entry rowsOf
+pair-read net table i j rows-are a b c d e =
+    rw (e, a, b, c, d, rows-are) refl

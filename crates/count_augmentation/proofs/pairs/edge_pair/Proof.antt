@@ -1,11 +1,14 @@
 -- Lengths and entries of the two edges, and the least of the entries.
-use Rattle.count_augmentation.proofs.Laws.Pairs.{same-pair}
-use Rattle.count_augmentation.specs.Pairs.{edgePair}
-use Rattle.prepare.proofs.Laws.Square.{held-entry}
-use Rattle.prepare.specs.Prepared.{entry}
+use Rattle.count_augmentation.proofs.Laws.Apart.{ends-read, rows-held}
+use Rattle.count_augmentation.proofs.Laws.Pairs.{pair-read}
+use Rattle.count_augmentation.specs.Pairs.{InRows}
+use lib.ListN.{getD}
 use borrow.Author.Needs.{needs}
 use Rattle.count_augmentation.proofs.pairs.edge_pair.Statement.{statement}
 use Rattle.count_augmentation.proofs.pairs.edge_pair.Tie as tie
+
+rows-of-requires : tie.Need-rows-of-requires
+rows-of-requires c κs = ends-read (c .before .before .before .before .pre .0) _ (c .before .before .before .before .pre .1 .0)
 
 mul-first : tie.Need-mul-first
 mul-first c = search needs
@@ -19,18 +22,6 @@ mul-second c = search needs
 shared-slice-read-second : tie.Need-shared-slice-read-second
 shared-slice-read-second c = search needs
 
-mul-other-first : tie.Need-mul-other-first
-mul-other-first c = search needs
-
-shared-slice-read-other-first : tie.Need-shared-slice-read-other-first
-shared-slice-read-other-first c = search needs
-
-mul-other-second : tie.Need-mul-other-second
-mul-other-second c = search needs
-
-shared-slice-read-other-second : tie.Need-shared-slice-read-other-second
-shared-slice-read-other-second c = search needs
-
 mul-size : tie.Need-mul-size
 mul-size c = search needs
 
@@ -43,44 +34,44 @@ mul-other c = search needs
 shared-slice-read-other : tie.Need-shared-slice-read-other
 shared-slice-read-other c = search needs
 
-entry-requires : tie.Need-entry-requires
-entry-requires c κs = held-entry (c .before .before .before .before .before .before .before .before .before .before .pre .0) (c .before .before .before .before .before .before .before .before .before .before .pre .0 .ends .first-is (c .before .before .before .before .before .before .before .before .before .before .args .i) (c .before .before .before .before .before .before .before .before .before .before .pre .1 .0)) (c .before .before .before .before .before .before .before .before .before .before .pre .0 .ends .first-is (c .before .before .before .before .before .before .before .before .before .before .args .j) (c .before .before .before .before .before .before .before .before .before .before .pre .1 .1))
+-- the entries lie within the table
+held : (c : tie.After-rows-of) → InRows (c .before .before .before .before .before .args .table .now) (c .rows-of .result) (getD (c .before .before .before .before .before .args .firsts .now) (c .before .before .before .before .before .args .j) 0) (getD (c .before .before .before .before .before .args .seconds .now) (c .before .before .before .before .before .args .j) 0)
+held c = rows-held (c .before .before .before .before .before .pre .0) _ _ (c .before .before .before .before .before .pre .1 .0) (c .before .before .before .before .before .pre .1 .1) (c .rows-of .ensures)
 
-entry-requires-2 : tie.Need-entry-requires-2
-entry-requires-2 c κs = held-entry (c .before .before .before .before .before .before .before .before .before .before .before .pre .0) (c .before .before .before .before .before .before .before .before .before .before .before .pre .0 .ends .first-is (c .before .before .before .before .before .before .before .before .before .before .before .args .i) (c .before .before .before .before .before .before .before .before .before .before .before .pre .1 .0)) (c .before .before .before .before .before .before .before .before .before .before .before .pre .0 .ends .second-is (c .before .before .before .before .before .before .before .before .before .before .before .args .j) (c .before .before .before .before .before .before .before .before .before .before .before .pre .1 .1))
+entry-in-requires : tie.Need-entry-in-requires
+entry-in-requires c κs = held (c .before .before .before .before) .ff
 
-entry-requires-3 : tie.Need-entry-requires-3
-entry-requires-3 c κs = held-entry (c .before .before .before .before .before .before .before .before .before .before .before .before .pre .0) (c .before .before .before .before .before .before .before .before .before .before .before .before .pre .0 .ends .second-is (c .before .before .before .before .before .before .before .before .before .before .before .before .args .i) (c .before .before .before .before .before .before .before .before .before .before .before .before .pre .1 .0)) (c .before .before .before .before .before .before .before .before .before .before .before .before .pre .0 .ends .first-is (c .before .before .before .before .before .before .before .before .before .before .before .before .args .j) (c .before .before .before .before .before .before .before .before .before .before .before .before .pre .1 .1))
+entry-in-requires-2 : tie.Need-entry-in-requires-2
+entry-in-requires-2 c κs = held (c .before .before .before .before .before) .fs
 
-entry-requires-4 : tie.Need-entry-requires-4
-entry-requires-4 c κs = held-entry (c .before .before .before .before .before .before .before .before .before .before .before .before .before .pre .0) (c .before .before .before .before .before .before .before .before .before .before .before .before .before .pre .0 .ends .second-is (c .before .before .before .before .before .before .before .before .before .before .before .before .before .args .i) (c .before .before .before .before .before .before .before .before .before .before .before .before .before .pre .1 .0)) (c .before .before .before .before .before .before .before .before .before .before .before .before .before .pre .0 .ends .second-is (c .before .before .before .before .before .before .before .before .before .before .before .before .before .args .j) (c .before .before .before .before .before .before .before .before .before .before .before .before .before .pre .1 .1))
+entry-in-requires-3 : tie.Need-entry-in-requires-3
+entry-in-requires-3 c κs = held (c .before .before .before .before .before .before) .sf
+
+entry-in-requires-4 : tie.Need-entry-in-requires-4
+entry-in-requires-4 c κs = held (c .before .before .before .before .before .before .before) .ss
 
 least-entry-requires : tie.Need-least-entry-requires
 least-entry-requires c κs = search needs
 
 returns : tie.Need-returns
-unfolding edgePair entry
-returns c = same-pair (c .before .before .before .before .entry .ensures) (c .before .before .before .entry2 .ensures) (c .before .before .entry3 .ensures) (c .before .entry4 .ensures) (c .least-entry .ensures)
+returns c = pair-read _ _ _ _ (c .before .before .before .before .before .before .before .before .before .rows-of .ensures) (c .before .before .before .before .entry-in .ensures) (c .before .before .before .entry-in2 .ensures) (c .before .before .entry-in3 .ensures) (c .before .entry-in4 .ensures) (c .least-entry .ensures)
 
 pub edge-pair-spec : {M : Type 1} → statement M
 edge-pair-spec =
     tie.close
     (tie.spec
+    rows-of-requires
     mul-first
     shared-slice-read-first
     mul-second
     shared-slice-read-second
-    mul-other-first
-    shared-slice-read-other-first
-    mul-other-second
-    shared-slice-read-other-second
     mul-size
     shared-slice-read-size
     mul-other
     shared-slice-read-other
-    entry-requires
-    entry-requires-2
-    entry-requires-3
-    entry-requires-4
+    entry-in-requires
+    entry-in-requires-2
+    entry-in-requires-3
+    entry-in-requires-4
     least-entry-requires
     returns)

@@ -1,4 +1,4 @@
--- The parts of the two runs lie within the lists; what is added are the pairs of the two, none where no route is within reach.
+-- The parts of the two runs lie within the lists; what is added are the pairs of the two.
 use mathlib.Core.List.{List}
 use Prim.Native.Nat.{ℕ, suc, _≤_}
 use native.Mathlib.Omega.{arith}
@@ -6,7 +6,7 @@ use lib.ListN.{length, getD}
 use Rattle.model.specs.Network.{network}
 use Rattle.prepare.specs.RunPairs.{RunsReady}
 use Rattle.prepare.proofs.Laws.RunPairs.{ready-table}
-use Rattle.count_augmentation.proofs.Laws.Meeting.{least-is, RunsRead, Within, within-list, in-offsets, edge-listed, edge-named, runs-asked, runs-added, runs-apart}
+use Rattle.count_augmentation.proofs.Laws.Meeting.{RunsRead, Within, within-list, in-offsets, edge-listed, edge-named, runs-asked, runs-added}
 use Rattle.count_augmentation.proofs.totals.add_runs.Statement.{statement}
 use Rattle.count_augmentation.proofs.totals.add_runs.Tie as tie
 
@@ -44,12 +44,6 @@ edge-pair-requires c κs = (
   (edge-named (ready (c .before .before .before .before .before .before .before .before .before .before .before .before .before .before .before .before .before)) _ _ _ (c .before .before .before .before .before .before .before .before .before .before .before .before .before .before .before .before .before .pre .1) (omega arith) (c .before .before .before .before .before .bound .ensures) (c .before .edge-index .ensures), edge-named (ready (c .before .before .before .before .before .before .before .before .before .before .before .before .before .before .before .before .before)) _ _ _ (omega arith) (omega (arith, c .before .before .before .before .before .before .before .before .before .before .before .before .before .before .before .before .before .pre .1)) (c .before .before .before .bound3 .ensures) (c .edge-index2 .ensures)),
 )
 
-sub-threshold-at : tie.Need-sub-threshold-at
-sub-threshold-at c = omega (arith, c .before .before .before .before .before .before .before .before .before .before .before .before .before .before .before .before .before .before .pre .3 .some)
-
-threshold-at-requires : tie.Need-threshold-at-requires
-threshold-at-requires c κs = omega (arith, c .before .before .before .before .before .before .before .before .before .before .before .before .before .before .before .before .before .before .pre .3 .some)
-
 -- the run whose events are gone through
 own : (c : tie.After-edge-pair) → Within (c .before .before .before .before .before .before .before .before .before .before .before .before .before .before .before .before .before .before .args .offsets .now) (c .before .before .before .before .before .before .bound .result) (c .before .before .before .before .before .bound2 .result)
 own c =
@@ -74,72 +68,65 @@ read c =
       other-edge-is = c .before .edge-index2 .ensures;
     }
 
-is-beyond-requires : tie.Need-is-beyond-requires
-is-beyond-requires c κs = least-is _ _ _ _ (c .before .edge-pair .ensures)
-
-returns : tie.Need-returns
-returns c =
-    runs-apart (c .before .before .before .before .before .before .before .before .before .before .before .before .before .before .before .before .before .before .before .before .before .pre .0) (c .before .before .before .before .before .before .before .before .before .before .before .before .before .before .before .before .before .before .before .before .before .pre .1) (read (c .before .before .before)) _ (c .before .before .before .edge-pair .ensures) _ (c .before .before .before .before .before .before .before .before .before .before .before .before .before .before .before .before .before .before .before .before .before .pre .3) _ (c .before .before .threshold-at .ensures) (c .before .is-beyond .ensures .0 (c .if1 .taken))
-
 mul-add-counts : tie.Need-mul-add-counts
-mul-add-counts c = let run = own (c .before .before .before) in omega (arith, run .in-order, run .few)
+mul-add-counts c = let run = own c in omega (arith, run .in-order, run .few)
 
 sub-add-counts : tie.Need-sub-add-counts
-sub-add-counts c = own (c .before .before .before) .in-order
+sub-add-counts c = own c .in-order
 
 part-add-counts-start : tie.Need-part-add-counts-start
-part-add-counts-start c = own (c .before .before .before) .in-order
+part-add-counts-start c = own c .in-order
 
 part-add-counts-end : tie.Need-part-add-counts-end
-part-add-counts-end c = own (c .before .before .before) .in-list
+part-add-counts-end c = own c .in-list
 
 mul-add-counts-2 : tie.Need-mul-add-counts-2
-mul-add-counts-2 c = let run = other-offsets (c .before .before .before .before) in omega (arith, run .in-order, run .few)
+mul-add-counts-2 c = let run = other-offsets (c .before) in omega (arith, run .in-order, run .few)
 
 sub-add-counts-2 : tie.Need-sub-add-counts-2
-sub-add-counts-2 c = other-offsets (c .before .before .before .before) .in-order
+sub-add-counts-2 c = other-offsets (c .before) .in-order
 
 part-add-counts-start-2 : tie.Need-part-add-counts-start-2
-part-add-counts-start-2 c = other-offsets (c .before .before .before .before) .in-order
+part-add-counts-start-2 c = other-offsets (c .before) .in-order
 
 part-add-counts-end-2 : tie.Need-part-add-counts-end-2
-part-add-counts-end-2 c = other-offsets (c .before .before .before .before) .in-list
+part-add-counts-end-2 c = other-offsets (c .before) .in-list
 
 mul-add-counts-3 : tie.Need-mul-add-counts-3
-mul-add-counts-3 c = let run = other-offsets (c .before .before .before .before .before) in omega (arith, run .in-order, run .few)
+mul-add-counts-3 c = let run = other-offsets (c .before .before) in omega (arith, run .in-order, run .few)
 
 sub-add-counts-3 : tie.Need-sub-add-counts-3
-sub-add-counts-3 c = other-offsets (c .before .before .before .before .before) .in-order
+sub-add-counts-3 c = other-offsets (c .before .before) .in-order
 
 part-add-counts-start-3 : tie.Need-part-add-counts-start-3
-part-add-counts-start-3 c = other-offsets (c .before .before .before .before .before) .in-order
+part-add-counts-start-3 c = other-offsets (c .before .before) .in-order
 
 part-add-counts-end-3 : tie.Need-part-add-counts-end-3
-part-add-counts-end-3 c = other (c .before .before .before .before .before) (c .before .before .before .before .before .before .before .before .before .before .before .before .before .before .before .before .before .before .before .before .before .before .before .args .near-first .now) (c .before .before .before .before .before .before .before .before .before .before .before .before .before .before .before .before .before .before .before .before .before .before .before .pre .2 .in-first) .in-list
+part-add-counts-end-3 c = other (c .before .before) (c .before .before .before .before .before .before .before .before .before .before .before .before .before .before .before .before .before .before .before .before .args .near-first .now) (c .before .before .before .before .before .before .before .before .before .before .before .before .before .before .before .before .before .before .before .before .pre .2 .in-first) .in-list
 
 mul-add-counts-4 : tie.Need-mul-add-counts-4
-mul-add-counts-4 c = let run = other-offsets (c .before .before .before .before .before .before) in omega (arith, run .in-order, run .few)
+mul-add-counts-4 c = let run = other-offsets (c .before .before .before) in omega (arith, run .in-order, run .few)
 
 sub-add-counts-4 : tie.Need-sub-add-counts-4
-sub-add-counts-4 c = other-offsets (c .before .before .before .before .before .before) .in-order
+sub-add-counts-4 c = other-offsets (c .before .before .before) .in-order
 
 part-add-counts-start-4 : tie.Need-part-add-counts-start-4
-part-add-counts-start-4 c = other-offsets (c .before .before .before .before .before .before) .in-order
+part-add-counts-start-4 c = other-offsets (c .before .before .before) .in-order
 
 part-add-counts-end-4 : tie.Need-part-add-counts-end-4
-part-add-counts-end-4 c = other (c .before .before .before .before .before .before) (c .before .before .before .before .before .before .before .before .before .before .before .before .before .before .before .before .before .before .before .before .before .before .before .before .args .near-second .now) (c .before .before .before .before .before .before .before .before .before .before .before .before .before .before .before .before .before .before .before .before .before .before .before .before .pre .2 .in-second) .in-list
+part-add-counts-end-4 c = other (c .before .before .before) (c .before .before .before .before .before .before .before .before .before .before .before .before .before .before .before .before .before .before .before .before .before .args .near-second .now) (c .before .before .before .before .before .before .before .before .before .before .before .before .before .before .before .before .before .before .before .before .before .pre .2 .in-second) .in-list
 
 add-counts-requires : tie.Need-add-counts-requires
 add-counts-requires c κs = (
-  runs-asked (ready (c .before .before .before .before .before .before .before .before .before .before .before .before .before .before .before .before .before .before .before .before .before .before .before .before .before .before)) _ _ (c .before .before .before .before .before .before .before .before .before .before .before .before .before .before .before .before .before .before .before .before .before .before .before .before .before .before .pre .1) (omega arith) (omega arith) (omega (arith, c .before .before .before .before .before .before .before .before .before .before .before .before .before .before .before .before .before .before .before .before .before .before .before .before .before .before .pre .1)) (read (c .before .before .before .before .before .before .before .before)) _ (c .before .before .before .before .before .before .before .before .edge-pair .ensures) (c .before .before .before .before .before .before .before .before .before .before .before .before .before .before .before .before .before .before .before .before .before .before .before .before .before .before .pre .2),
-  c .before .before .before .before .before .before .before .before .before .before .before .before .before .before .before .before .before .before .before .before .before .before .before .before .before .before .pre .4,
+  runs-asked (ready (c .before .before .before .before .before .before .before .before .before .before .before .before .before .before .before .before .before .before .before .before .before .before .before)) _ _ (c .before .before .before .before .before .before .before .before .before .before .before .before .before .before .before .before .before .before .before .before .before .before .before .pre .1) (omega arith) (omega arith) (omega (arith, c .before .before .before .before .before .before .before .before .before .before .before .before .before .before .before .before .before .before .before .before .before .before .before .pre .1)) (read (c .before .before .before .before .before)) _ (c .before .before .before .before .before .edge-pair .ensures) (c .before .before .before .before .before .before .before .before .before .before .before .before .before .before .before .before .before .before .before .before .before .before .before .pre .2),
+  c .before .before .before .before .before .before .before .before .before .before .before .before .before .before .before .before .before .before .before .before .before .before .before .pre .4,
 )
 
 same-length : tie.Need-same-length
 same-length c = c .before .totals .given
 
-returns-2 : tie.Need-returns-2
-returns-2 c = runs-added (c .before .before .before .before .before .before .before .before .before .before .before .before .before .before .before .before .before .before .before .before .before .before .before .before .before .before .before .before .before .pre .0) (c .before .before .before .before .before .before .before .before .before .before .before .before .before .before .before .before .before .before .before .before .before .before .before .before .before .before .before .before .before .pre .1) (read (c .before .before .before .before .before .before .before .before .before .before .before)) _ (c .before .before .before .before .before .before .before .before .before .before .before .edge-pair .ensures) (c .before .before .add-counts .ensures .1)
+returns : tie.Need-returns
+returns c = runs-added (c .before .before .before .before .before .before .before .before .before .before .before .before .before .before .before .before .before .before .before .before .before .before .before .before .before .before .pre .0) (c .before .before .before .before .before .before .before .before .before .before .before .before .before .before .before .before .before .before .before .before .before .before .before .before .before .before .pre .1) (read (c .before .before .before .before .before .before .before .before)) _ (c .before .before .before .before .before .before .before .before .edge-pair .ensures) (c .before .before .add-counts .ensures .1)
 
 pub add-runs-spec : {M : Type 1} → statement M
 add-runs-spec =
@@ -154,10 +141,6 @@ add-runs-spec =
     edge-index-requires
     edge-index-requires-2
     edge-pair-requires
-    sub-threshold-at
-    threshold-at-requires
-    is-beyond-requires
-    returns
     mul-add-counts
     sub-add-counts
     part-add-counts-start
@@ -176,4 +159,4 @@ add-runs-spec =
     part-add-counts-end-4
     add-counts-requires
     same-length
-    returns-2)
+    returns)
