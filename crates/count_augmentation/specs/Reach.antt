@@ -38,10 +38,10 @@ unfoldable pub lookedAround : ℕ → ℕ → ℕ → ℕ → ℕ → List ℕ �
 lookedAround q to-first to-second t x ys near-first near-second =
     covered (length ys) (readBelow ys near-first to-first) (readFrom ys near-second (suc q - to-second)) (length ys - readFrom ys near-second (x - t)) (readBelow ys near-first (x + t + 1))
 
--- where the whole edge is within reach from an end, the number stored with the last event
+-- where the whole edge is within reach from its two ends together, the number stored with the last event
 unfoldable pub lookedUp : ℕ → ℕ → ℕ → Bool → ℕ → ℕ → List ℕ → List ℕ → List ℕ → ℕ
 lookedUp q to-first to-second own t x ys near-first near-second =
-    cond (ltb q (max to-first to-second)) (storedLast near-first)
+    cond (ltb q (to-first + to-second)) (storedLast near-first)
     (cond own (lookedAround q to-first to-second t x ys near-first near-second) (lookedByEnds q to-first to-second ys near-first near-second))
 
 -- the rising offsets of an edge of length q, with a number for each end beside each, whatever it is

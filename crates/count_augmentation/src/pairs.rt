@@ -2,12 +2,12 @@
 ghost use mathlib.Core.Bool.{true};
 ghost use mathlib.Core.List.{List};
 ghost use mathlib.Core.Path.{_≡_};
-ghost use Prim.Native.Nat.{ℕ, pred, _*_, _≤_, _<_, max};
+ghost use Prim.Native.Nat.{ℕ, pred, _+_, _*_, _≤_, _<_};
 ghost use lib.ListN.{length, getD};
 ghost use Rattle.model.specs.Limits.{maxNodes, maxEvents, maxPairs};
 ghost use Rattle.model.specs.Network.{network};
 ghost use Rattle.prepare.specs.EndTable.{EndTable};
-ghost use Rattle.count_augmentation.specs.Pairs.{lesserEntry, leastEntry, rowsOf, inRow, EndsRead, InRow, InRows, Apart, edgePair, toFirst, toSecond, reachedBy, reachedPairs, lookedUpBy, lookedUpPairs, TwoRuns};
+ghost use Rattle.count_augmentation.specs.Pairs.{lesserEntry, leastEntry, way, rowsOf, inRow, EndsRead, InRow, InRows, Apart, edgePair, toFirst, toSecond, reachedBy, reachedPairs, lookedUpBy, lookedUpPairs, TwoRuns};
 ghost use Rattle.count_augmentation.specs.Reach.{Run};
 ghost use Rattle.count_augmentation.specs.Storing.{NumbersStored, storedLast};
 use crate::reach::count_reached;
@@ -15,6 +15,7 @@ use crate::reach::reach;
 use crate::reach::reach_by;
 use model::equals_end;
 use model::greater;
+use model::lesser;
 
 // Two edges: their lengths, the table entries from each end of the one to each end of the other, whether they are one edge, and the
 // entry of the least way between them.
@@ -149,13 +150,33 @@ fn is_beyond(g: EdgePair, threshold: u32) -> bool
     reach_by(threshold, 0, g.least) == 0
 }
 
-// The whole second edge is within the threshold of every place on the first, by the least way: all their events are pairs.
-fn is_whole(g: EdgePair, threshold: u32) -> bool
-    requires { ⌜ g .least ≡ leastEntry (g .firsts) (g .onward) (g .back) (g .seconds) ⌝ }
-    ensures { λ r. ⌜ (r ≡ true → (x : ℕ) → x ≤ g .size → g .other < max (toFirst g threshold x) (toSecond g threshold x)) ⌝ }
+// The metres of a table entry, which is one more, and 0 for none: far above every threshold.
+fn way(entry: u32) -> u64
+    ensures { λ r. ⌜ r ≡ way entry ⌝ }
 {
-    let whole = g.other as u64;
-    whole < reach_by(threshold, g.size, g.least)
+    if entry == 0 {
+        1099511627776
+    } else {
+        entry as u64 - 1
+    }
+}
+
+// The metres of two ways together.
+fn both(a: u32, b: u32) -> u64
+    ensures { λ r. ⌜ (r ≡ way a + way b) × (r ≤ 2199023255552) ⌝ }
+{
+    way(a) + way(b)
+}
+
+// The whole second edge is within the threshold of every place on the first: all their events are pairs. The routes between two
+// places by both first ends and by both second ends add up to the same for all places, and so do those onward and back, so that the
+// lesser of two is at most half of that.
+fn is_whole(g: EdgePair, threshold: u32) -> bool
+    ensures { λ r. ⌜ (r ≡ true → (x : ℕ) → x ≤ g .size → g .other < toFirst g threshold x + toSecond g threshold x) ⌝ }
+{
+    let ways = lesser(both(g.firsts, g.seconds), both(g.onward, g.back));
+    let routes = ways + g.size as u64 + g.other as u64;
+    routes <= 2 * threshold as u64 + 1
 }
 
 // For each event of a run on the first edge, how many of a run on the second it reaches: looked up once for events at one offset. The

@@ -86,8 +86,8 @@ fn count_around(
     covered(places, first, last, less(places, from_window), upto)
 }
 
-// How many offsets of a run an event reaches, its own included. Where the whole edge is within reach from one of its ends, that is
-// the whole run's number, all.
+// How many offsets of a run an event reaches, its own included. Where the whole edge is within reach from its two ends together, that
+// is the whole run's number, all.
 pub(crate) fn count_reached(
     offsets: &[u32],
     near_first: &[u32],
@@ -100,12 +100,12 @@ pub(crate) fn count_reached(
     threshold: u32,
     offset: u32,
 ) -> u64
-    requires { ⌜ Run size (now offsets) (now «near_first») (now «near_second») × (all ≡ storedLast (now «near_first»)) ⌝ }
+    requires { ⌜ Run size (now offsets) (now «near_first») (now «near_second») × (all ≡ storedLast (now «near_first»)) × («to_first» ≤ 4294967296) × («to_second» ≤ 4294967296) ⌝ }
     ensures { λ r. ⌜ r ≡ lookedUp size «to_first» «to_second» own threshold offset (now (offsets .entry)) (now («near_first» .entry)) (now («near_second» .entry)) ⌝ }
     ensures { λ r. ⌜ (NumbersStored size (now (offsets .entry)) (now («near_first» .entry)) (now («near_second» .entry)) → r ≡ reached size «to_first» «to_second» own threshold offset (now (offsets .entry))) ⌝ }
 {
     let whole = size as u64;
-    if whole < greater(to_first, to_second) {
+    if whole < to_first + to_second {
         return all as u64;
     }
     if own {

@@ -3,6 +3,7 @@ use mathlib.Core.Bool.{false}
 use mathlib.Core.List.{List}
 use mathlib.Core.Path.{_≡_, refl, sym, ap, _∙_}
 use Prim.Native.Nat.{ℕ, zero, suc, _+_, _-_, _*_, _≤_, _<_, min, max}
+use native.Mathlib.Decide.{decLt}
 use native.Mathlib.Nat.{suc-mul, mul-le-mul}
 use native.Mathlib.Omega.{arith}
 use lib.Dec.{eqb, eqb·suc-zero}
@@ -13,7 +14,7 @@ use Rattle.model.specs.Limits.{maxPairs}
 use Rattle.model.specs.Network.{Network, first, second, size}
 use Rattle.prepare.specs.Prepared.{entry}
 use Rattle.prepare.specs.Totals.{AddedAt}
-use Rattle.count_augmentation.specs.Pairs.{lesserEntry, leastEntry, rowsOf, inRow, edgePair, toFirst, toSecond, reachedBy, reachedPairs, lookedUpBy, lookedUpPairs, TwoRuns, TwoRunsStored}
+use Rattle.count_augmentation.specs.Pairs.{lesserEntry, leastEntry, way, rowsOf, inRow, edgePair, toFirst, toSecond, reachedBy, reachedPairs, lookedUpBy, lookedUpPairs, TwoRuns, TwoRunsStored}
 use Rattle.count_augmentation.specs.Reach.{reachOf, farthest, reached, Run}
 use Rattle.count_augmentation.specs.Storing.{NumbersStored, storedLast}
 use Rattle.count_augmentation.specs.declared.pairs.EdgePair.{EdgePair}
@@ -40,11 +41,31 @@ reach-lower t t′ (suc entry) h e =
     let spent : suc t′ - (0 + entry) ≡ 0 = rw (eqb·suc-zero entry) at e in
     rw (eqb·suc-zero entry) (omega arith)
 
--- a lesser gap reaches no less far
-reach-nearer : (t a a′ entry : ℕ) → a ≤ a′ → reachOf t a′ entry ≤ reachOf t a entry
+-- no reach is past the threshold and one
+reach-small : (t a entry : ℕ) → reachOf t a entry ≤ suc t
 unfolding reachOf
-reach-nearer t a a′ zero h = omega arith
-reach-nearer t a a′ (suc entry) h = rw (eqb·suc-zero entry) (omega arith)
+reach-small t a zero = omega arith
+reach-small t a (suc entry) = rw (eqb·suc-zero entry) (omega arith)
+
+pub farthest-small : (t p x by-first by-second : ℕ) → farthest t p x by-first by-second ≤ suc t
+unfolding farthest
+farthest-small t p x f s = omega (arith, reach-small t x f, reach-small t (p - x) s)
+
+-- no way has more metres than stand for none
+pub way-small : (entry : ℕ) → entry ≤ 4294967295 → way entry ≤ 1099511627776
+unfolding way
+way-small zero h = omega arith
+way-small (suc entry) h = rw (eqb·suc-zero entry) (omega arith)
+
+-- a reach by the metres of the way: where there is none they are past every threshold
+reach-way : (t a entry : ℕ) → t ≤ 4294967295 → reachOf t a entry ≡ suc t - (a + way entry)
+unfolding reachOf way
+reach-way t a zero low = omega arith
+reach-way t a (suc entry) low = rw (eqb·suc-zero entry) refl
+
+-- from one place by two opposite routes, which with both edges come to at most twice the threshold and one, a whole edge is reached
+two-routes : (t p q x a b : ℕ) → t ≤ 4294967295 → x ≤ p → ((way a + way b) + p) + q ≤ 2 * t + 1 → q < reachOf t x a + reachOf t (p - x) b
+two-routes t p q x a b low h l = rw (reach-way t x a low, reach-way t (p - x) b low) (omega arith)
 
 -- the lesser of a way and none, and of two
 lesser-none : (x : ℕ) → lesserEntry (suc x) 0 ≡ suc x
@@ -77,11 +98,6 @@ unfolding sumBelow
 sum-same zero m = omega arith
 sum-same (suc n) m = omega (arith, sum-same n m, suc-mul n m)
 
--- from any place on an edge one reaches by its two ends as far as from the farthest
-reach-farthest : (t p x by-first by-second : ℕ) → x ≤ p → max (reachOf t p by-first) (reachOf t p by-second) ≤ farthest t p x by-first by-second
-unfolding farthest
-reach-farthest t p x f s h = omega (arith, reach-nearer t x p f h, reach-nearer t (p - x) p s (omega arith))
-
 module _ (g : EdgePair) (t : ℕ) where
   -- no route is within a threshold that is no lower, even by the least way and without gaps
   module _ (t′ : ℕ) (h : t ≤ t′) (least : g .least ≡ leastEntry (g .firsts) (g .onward) (g .back) (g .seconds)) (none : reachOf t′ 0 (g .least) ≡ 0) where
@@ -104,11 +120,14 @@ module _ (g : EdgePair) (t : ℕ) where
     none-looked-up other x ys near-first near-second run =
         rw (other, first-beyond x, second-beyond x) (nothing-looked-up run t x)
 
-  -- by the least way the whole edge is within the threshold of the farthest offset
-  pub whole-by-least : (x : ℕ) → x ≤ g .size → g .least ≡ leastEntry (g .firsts) (g .onward) (g .back) (g .seconds) → g .other < reachOf t (g .size) (g .least) → g .other < max (toFirst g t x) (toSecond g t x)
-  whole-by-least x h least l =
-      let far : g .other < max (max (reachOf t (g .size) (g .firsts)) (reachOf t (g .size) (g .onward))) (max (reachOf t (g .size) (g .back)) (reachOf t (g .size) (g .seconds))) = rw (least, reach-least t (g .size) (g .firsts) (g .onward) (g .back) (g .seconds)) at l in
-      omega (arith, reach-farthest t (g .size) x (g .firsts) (g .back) h, reach-farthest t (g .size) x (g .onward) (g .seconds) h)
+  -- by the lesser two of the four routes the whole edge is within the threshold of every offset
+  pub whole-by-two : t ≤ 4294967295 → (min (way (g .firsts) + way (g .seconds)) (way (g .onward) + way (g .back)) + g .size) + g .other ≤ 2 * t + 1 → (x : ℕ) → x ≤ g .size → g .other < toFirst g t x + toSecond g t x
+  unfolding farthest
+  whole-by-two low l x h = go (decLt (2 * t + 1) (((way (g .firsts) + way (g .seconds)) + g .size) + g .other))
+    where
+      go : Dec (2 * t + 1 < ((way (g .firsts) + way (g .seconds)) + g .size) + g .other) → g .other < farthest t (g .size) x (g .firsts) (g .back) + farthest t (g .size) x (g .onward) (g .seconds)
+      go (yes m) = omega (arith, two-routes t (g .size) (g .other) x (g .onward) (g .back) low h (omega arith))
+      go (no m) = omega (arith, two-routes t (g .size) (g .other) x (g .firsts) (g .seconds) low h (omega arith))
 
   -- at most a whole run is reached
   pub reached-few : (x : ℕ) (ys : List ℕ) → reachedBy g t x ys ≤ length ys
@@ -136,7 +155,7 @@ module _ (g : EdgePair) (t : ℕ) where
     no-look-ups none = sym (sum-below-zero (length xs) _ (λ i h. none (getD xs i 0) ys near-first near-second (two .run)))
 
     -- the whole run's number for each
-    pub all-look-ups : ((x : ℕ) → x ≤ g .size → g .other < max (toFirst g t x) (toSecond g t x)) → length xs * storedLast near-first ≡ lookedUpPairs g t xs ys near-first near-second
+    pub all-look-ups : ((x : ℕ) → x ≤ g .size → g .other < toFirst g t x + toSecond g t x) → length xs * storedLast near-first ≡ lookedUpPairs g t xs ys near-first near-second
     unfolding lookedUpPairs lookedUpBy
     all-look-ups whole =
         sym (sum-below-cong (length xs) _ (λ i. storedLast near-first) (λ i h. sym (whole-up _ _ _ t (getD xs i 0) ys near-first near-second (g .same) (whole (getD xs i 0) (two .on-edge .on i h)))) ∙ sum-same (length xs) (storedLast near-first))

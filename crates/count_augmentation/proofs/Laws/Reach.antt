@@ -68,25 +68,23 @@ nothing-reached q ys f s t x e g =
     sym (count-before _ ys 0 (omega arith) (λ k l. absurd (omega arith))
     (λ k l m. simp (le-ltb (getD ys k 0) f (omega arith), le-ltb (q - getD ys k 0) s (omega arith))))
 
--- the whole edge is within reach of one end
+-- the whole edge is within reach of its two ends together: each place of one or of the other
 second-holds : (a w : Bool) → ((a || true) || w) ≡ true
 second-holds true w = refl
 second-holds false w = refl
 
-module _ (q : ℕ) (ys : List ℕ) (on-edge : OnEdge q ys) (f s : ℕ) (own : Bool) (t x : ℕ) where
-  all-from-first : q < f → length ys ≡ reached q f s own t x ys
-  unfolding reached isReached
-  all-from-first h =
-      sym (count-before _ ys (length ys) (omega arith)
-      (λ k l. rw (lt-ltb (getD ys k 0) f (omega (arith, on-edge .on k l))) refl)
-      (λ k l m. absurd (omega arith)))
+place-reached : (q f s : ℕ) (own : Bool) (t x y : ℕ) → y ≤ q → q < f + s → isReached q f s own t x y ≡ true
+unfolding isReached
+place-reached q f s own t x y on h = go (decLt y f)
+  where
+    go : Dec (y < f) → ((ltb y f || ltb (q - y) s) || (own && leb (difference x y) t)) ≡ true
+    go (yes l) = rw (lt-ltb y f l) refl
+    go (no l) = rw (lt-ltb (q - y) s (omega arith)) (second-holds (ltb y f) _)
 
-  all-from-second : q < s → length ys ≡ reached q f s own t x ys
-  unfolding reached isReached
-  all-from-second h =
-      sym (count-before _ ys (length ys) (omega arith)
-      (λ k l. rw (lt-ltb (q - getD ys k 0) s (omega arith)) (second-holds (ltb (getD ys k 0) f) _))
-      (λ k l m. absurd (omega arith)))
+all-reached : (q : ℕ) (ys : List ℕ) → OnEdge q ys → (f s : ℕ) (own : Bool) (t x : ℕ) → q < f + s → length ys ≡ reached q f s own t x ys
+unfolding reached
+all-reached q ys on-edge f s own t x h =
+    sym (count-before _ ys (length ys) (omega arith) (λ k l. place-reached q f s own t x (getD ys k 0) (on-edge .on k l) h) (λ k l m. absurd (omega arith)))
 
 module _ (q : ℕ) (ys : List ℕ) (rising : Ordered ys) (on-edge : OnEdge q ys) (f s t x : ℕ) where
   -- the first and the last places
@@ -123,37 +121,29 @@ module _ (q : ℕ) (ys : List ℕ) (rising : Ordered ys) (on-edge : OnEdge q ys)
       window-opens (below-first ys rising f) second-last
       (λ k h. in-window x (getD ys k 0) t ∙ ap₂ _&&_ (from-last ys rising (x - t) k h) (below-first ys rising (x + t + 1) k h)))
 
--- the whole edge is within reach of one end or the other
-all-reached : (q : ℕ) (ys : List ℕ) → OnEdge q ys → (f s : ℕ) (own : Bool) (t x : ℕ) → q < max f s → length ys ≡ reached q f s own t x ys
-all-reached q ys on-edge f s own t x h = go (decLt q f)
-  where
-    go : Dec (q < f) → length ys ≡ reached q f s own t x ys
-    go (yes l) = all-from-first q ys on-edge f s own t x l
-    go (no l) = all-from-second q ys on-edge f s own t x (omega arith)
-
 -- what is looked up, by its cases
 module _ (q f s t x : ℕ) (ys near-first near-second : List ℕ) where
-  pub whole-up : (own : Bool) → q < max f s → storedLast near-first ≡ lookedUp q f s own t x ys near-first near-second
+  pub whole-up : (own : Bool) → q < f + s → storedLast near-first ≡ lookedUp q f s own t x ys near-first near-second
   unfolding lookedUp
-  whole-up own h = rw (lt-ltb q (max f s) h)
+  whole-up own h = rw (lt-ltb q (f + s) h)
 
-  pub around-up : max f s ≤ q → lookedAround q f s t x ys near-first near-second ≡ lookedUp q f s true t x ys near-first near-second
+  pub around-up : f + s ≤ q → lookedAround q f s t x ys near-first near-second ≡ lookedUp q f s true t x ys near-first near-second
   unfolding lookedUp
-  around-up h = rw (le-ltb q (max f s) h)
+  around-up h = rw (le-ltb q (f + s) h)
 
-  pub ends-up : max f s ≤ q → lookedByEnds q f s ys near-first near-second ≡ lookedUp q f s false t x ys near-first near-second
+  pub ends-up : f + s ≤ q → lookedByEnds q f s ys near-first near-second ≡ lookedUp q f s false t x ys near-first near-second
   unfolding lookedUp
-  ends-up h = rw (le-ltb q (max f s) h)
+  ends-up h = rw (le-ltb q (f + s) h)
 
   -- it is no greater than the whole run's number and the size of the run
   pub looked-small : (own : Bool) (m : ℕ) → storedLast near-first ≤ m → length ys ≤ m → lookedUp q f s own t x ys near-first near-second ≤ m
   unfolding lookedAround lookedByEnds
-  looked-small own m small few = go own (decLt q (max f s))
+  looked-small own m small few = go own (decLt q (f + s))
     where
       less-twice : (n a b : ℕ) → n - a - b ≤ n
       less-twice n a b = omega arith
 
-      go : (own : Bool) → Dec (q < max f s) → lookedUp q f s own t x ys near-first near-second ≤ m
+      go : (own : Bool) → Dec (q < f + s) → lookedUp q f s own t x ys near-first near-second ≤ m
       go own (yes h) = rw (← whole-up own h) small
       go true (no h) = rw (← around-up (omega arith)) (le-trans (less-twice (length ys) _ _) few)
       go false (no h) = rw (← ends-up (omega arith)) (omega arith)
@@ -212,9 +202,9 @@ module _ {q : ℕ} {ys near-first near-second : List ℕ} (run : Run q ys near-f
 
       -- what is looked up is what is reached
       pub looked-reached : (own : Bool) → lookedUp q f s own t x ys near-first near-second ≡ reached q f s own t x ys
-      looked-reached own = go own (decLt q (max f s))
+      looked-reached own = go own (decLt q (f + s))
         where
-          go : (own : Bool) → Dec (q < max f s) → lookedUp q f s own t x ys near-first near-second ≡ reached q f s own t x ys
+          go : (own : Bool) → Dec (q < f + s) → lookedUp q f s own t x ys near-first near-second ≡ reached q f s own t x ys
           go own (yes h) = sym (whole-up q f s t x ys near-first near-second own h) ∙ all-read ∙ all-reached q ys (run .on-edge) f s own t x h
           go true (no h) = sym (around-up q f s t x ys near-first near-second (omega arith)) ∙ looked-around
           go false (no h) = sym (ends-up q f s t x ys near-first near-second (omega arith)) ∙ looked-by-ends

@@ -4,7 +4,7 @@ use Prim.Native.Nat.{ℕ}
 use native.Mathlib.Omega.{arith}
 use Rattle.count_augmentation.specs.Pairs.{toFirst, toSecond, reachedBy, lookedUpBy}
 use Rattle.count_augmentation.specs.Reach.{lookedUp}
-use Rattle.count_augmentation.proofs.Laws.Pairs.{reached-few}
+use Rattle.count_augmentation.proofs.Laws.Pairs.{farthest-small, reached-few}
 use Rattle.count_augmentation.proofs.Laws.Reach.{looked-reached}
 use borrow.Author.Needs.{needs}
 use Rattle.count_augmentation.proofs.pairs.count_event.Statement.{statement}
@@ -17,7 +17,16 @@ reach-requires-2 : tie.Need-reach-requires-2
 reach-requires-2 c κs = search needs
 
 count-reached-requires : tie.Need-count-reached-requires
-count-reached-requires c κs = search needs
+count-reached-requires c κs =
+    let start = c .before .before .before .before .before in
+    let g = start .args .g in
+    let t = start .args .threshold in
+    let x = start .args .offset in (
+      start .pre .1,
+      start .pre .2,
+      omega (arith, c .before .reach .ensures, farthest-small t (g .size) x (g .firsts) (g .back)),
+      omega (arith, c .reach2 .ensures, farthest-small t (g .size) x (g .onward) (g .seconds)),
+    )
 
 returns : tie.Need-returns
 unfolding lookedUpBy reachedBy

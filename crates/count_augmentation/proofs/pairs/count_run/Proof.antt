@@ -39,7 +39,7 @@ returns c =
     (read, pairs-counted _ _ (c .before .before .before .before .before .before .pre .0) read)
 
 is-whole-requires : tie.Need-is-whole-requires Inv-loop μ-loop
-is-whole-requires c κs = c .before .before .before .before .before .before .pre .0 .least-is
+is-whole-requires c κs = search needs
 
 mul-result : tie.Need-mul-result Inv-loop μ-loop
 mul-result c = omega (arith, mul-le-mul {m₁ = c .before .before .before .before .before .before .before .before .args .all} {m₂ = 4294967295} (c .before .before .before .before .before .before .before .before .pre .0 .few) (omega arith))
