@@ -21,7 +21,7 @@ pub enum Method {
 }
 
 // What the choice goes by beside the ways: the thresholds, and for an event of a set the edges to be taken beside its own, shared out
-// among the events of that; the events on it, the thresholds shorter than it; and of a hundred events how many may be at different
+// among the events of that; the events on it, the thresholds shorter than it; and of a hundred events about how many are at different
 // offsets.
 pub struct Case {
     pub thresholds: u64,
@@ -39,10 +39,10 @@ const FEW_EDGES: u64 = 32;
 
 const SAMPLES: u64 = 4;
 
-// Every so many thresholds in a row, and the next, lie so far apart that the range query's cells have no more each. Cells of the
-// half of such a span reach up to this many.
+// The range query has twice so many cells, of a power of two metres, which may be little more than half of what thresholds allow.
 const CELLS: u64 = 4096;
 
+// Thresholds lie so far apart that no cell has more than the most.
 fn are_apart(thresholds: &[u32], most: usize) -> bool {
     let count = thresholds.len();
     if count <= most {
@@ -60,21 +60,22 @@ fn are_apart(thresholds: &[u32], most: usize) -> bool {
     entry(thresholds, count - 1 - most) / CELLS < span
 }
 
-// What the range query takes for a pair: one comparison, a few, or halving all thresholds.
+// What the range query takes for a pair: one comparison where a cell has one threshold, three where it has up to seven, or as many as
+// halving all of them takes.
 fn pair_time(thresholds: &[u32]) -> u64 {
     if are_apart(thresholds, 1) {
         return 75;
     }
     if are_apart(thresholds, 7) {
-        return 117;
+        return 120;
     }
-    215
+    233
 }
 
-// How many of a hundred events may be at different offsets: an edge has one offset more than metres.
+// About how many of a hundred events are at different offsets, if one is as likely as another: an edge has one more than metres.
 fn different_of(size: u64, sums: Occupied) -> u64 {
-    let offsets = sum(shared(sums.metres, size), 1);
-    shared(100 * lesser(size, product(sums.edges, offsets)), size)
+    let offsets = product(sums.edges, sum(shared(sums.metres, size), 1));
+    shared(300 * offsets, 3 * offsets + 2 * small(size))
 }
 
 fn case_of(size: u64, sums: Occupied, thresholds: &[u32]) -> Case {
@@ -101,17 +102,17 @@ fn query_time(c: Case, ways: Ways, pair: u64) -> u64 {
 // Count augmentation looks up each threshold that is shorter than the edge, by halving the events on it, and each that reaches a part of
 // another.
 fn augmentation_time(c: Case, ways: Ways) -> u64 {
-    let own = for_each(390, 370 + product(197, halvings(c.events)), c);
-    let met = product(ways.met, 330 + product(92, c.thresholds));
-    let beside = product(c.shorter, own) + product(ways.crossing, for_each(0, 340, c));
-    product(90, c.edges) + met + beside
+    let own = for_each(373, 596 + product(193, halvings(c.events)), c);
+    let met = product(ways.met, 308 + product(90, c.thresholds));
+    let beside = product(c.shorter, own) + product(ways.crossing, for_each(55, 260, c));
+    product(99, c.edges) + met + beside
 }
 
 // Neighbour sharing sweeps the edge with each threshold, and others with each that reaches them.
 fn sharing_time(c: Case, ways: Ways) -> u64 {
-    let own = product(c.thresholds, for_each(150, 750, c));
-    let met = product(ways.met, product(64, c.thresholds));
-    product(350, c.edges) + own + met + product(ways.reaching, for_each(120, 310, c))
+    let own = product(c.thresholds, for_each(175, 735, c));
+    let met = product(ways.met, product(58, c.thresholds));
+    product(340, c.edges) + own + met + product(ways.reaching, for_each(167, 302, c))
 }
 
 fn fastest(c: Case, ways: Ways, pair: u64) -> Method {
