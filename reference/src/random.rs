@@ -132,6 +132,66 @@ pub fn ring_network(rng: &mut Rng, nodes: u32, legs: usize, max_length: u32) -> 
     input
 }
 
+/// Networks of other shapes, all nodes used, the legs in any order.
+#[derive(Clone, Copy, Debug, PartialEq, Eq)]
+pub enum Shape {
+    /// A ring and as many legs again.
+    Ring,
+    /// Any two nodes, two legs for a node.
+    Any,
+    /// Rows and columns.
+    Grid,
+    /// One node after the other.
+    Path,
+    /// Each node hangs on an earlier one.
+    Tree,
+}
+
+impl Shape {
+    pub const ALL: [Shape; 5] = [Shape::Ring, Shape::Any, Shape::Grid, Shape::Path, Shape::Tree];
+
+    pub fn name(self) -> &'static str {
+        match self {
+            Shape::Ring => "ring",
+            Shape::Any => "any",
+            Shape::Grid => "grid",
+            Shape::Path => "path",
+            Shape::Tree => "tree",
+        }
+    }
+
+    /// At least two nodes.
+    pub fn network(self, rng: &mut Rng, nodes: u32, max_length: u32) -> NetworkInput {
+        let side = (1..).find(|side| side * side >= nodes).unwrap_or(1);
+        let mut ends: Vec<(u32, u32)> = match self {
+            Shape::Ring => (1..=nodes).map(|node| (node, node % nodes + 1)).collect(),
+            Shape::Any => Vec::new(),
+            Shape::Grid => (1..nodes)
+                .flat_map(|node| [(node, node + 1), (node, node + side)])
+                .filter(|&(node, next)| next <= nodes && (next != node + 1 || node % side != 0))
+                .collect(),
+            Shape::Path => (1..nodes).map(|node| (node, node + 1)).collect(),
+            Shape::Tree => (2..=nodes).map(|node| (rng.between(1, node - 1), node)).collect(),
+        };
+        if matches!(self, Shape::Ring | Shape::Any) {
+            while ends.len() < 2 * nodes as usize {
+                let (first, second) = (rng.between(1, nodes), rng.between(1, nodes - 1));
+                ends.push((first, if second >= first { second + 1 } else { second }));
+            }
+        }
+        ends.truncate(MAX_LEGS);
+        for last in (1..ends.len()).rev() {
+            ends.swap(last, rng.index(last + 1));
+        }
+        NetworkInput {
+            nodes,
+            firsts: ends.iter().map(|ends| ends.0).collect(),
+            seconds: ends.iter().map(|ends| ends.1).collect(),
+            lengths: ends.iter().map(|_| rng.between(1, max_length)).collect(),
+        }
+    }
+}
+
 fn offset(rng: &mut Rng, length: u32) -> u32 {
     match rng.below(8) {
         0 => 0,
@@ -196,6 +256,14 @@ pub fn even_thresholds(count: usize, max_value: u32) -> Vec<u32> {
     (1..=count).map(|k| (k * step).min(u64::from(u32::MAX)) as u32).collect()
 }
 
+/// Each at least one more than the one before.
+fn rising(mut values: Vec<u32>) -> Vec<u32> {
+    for k in 1..values.len() {
+        values[k] = values[k].max(values[k - 1] + 1);
+    }
+    values
+}
+
 /// How thresholds lie to the legs.
 #[derive(Clone, Copy, Debug)]
 pub enum Spread {
@@ -205,24 +273,47 @@ pub enum Spread {
     Short,
     /// 1, 2, 3 and so on, and one as long as all legs together.
     Far,
+    /// One half evenly up to a quarter of the longest leg, the other every
+    /// three such legs.
+    Halves,
+    /// Each so many times the one before, up to all legs together.
+    Growing,
+    /// One after the other, from twice the longest leg on.
+    Crowded,
 }
 
 impl Spread {
+    pub const ALL: [Spread; 6] = [Spread::Even, Spread::Short, Spread::Far, Spread::Halves, Spread::Growing, Spread::Crowded];
+
     pub fn name(self) -> &'static str {
         match self {
             Spread::Even => "even",
             Spread::Short => "short",
             Spread::Far => "far",
+            Spread::Halves => "halves",
+            Spread::Growing => "growing",
+            Spread::Crowded => "crowded",
         }
     }
 
     /// Just so many rising thresholds over a ring network with legs of up to
     /// `longest` metres.
     pub fn thresholds(self, count: usize, longest: u32) -> Vec<u32> {
+        let all = longest.saturating_mul(MAX_LEGS as u32);
         match self {
             Spread::Even => even_thresholds(count, longest.saturating_mul(6).max(64)),
             Spread::Short => even_thresholds(count, longest / 2),
-            Spread::Far => (1..count as u32).chain([longest.saturating_mul(MAX_LEGS as u32)]).collect(),
+            Spread::Far => (1..count as u32).chain([all]).collect(),
+            Spread::Halves => {
+                let low = count / 2;
+                let high = (1..=(count - low) as u32).map(|k| longest.saturating_mul(3 * k));
+                rising(even_thresholds(low, longest / 4).into_iter().take(low).chain(high).collect())
+            }
+            Spread::Growing => {
+                let times = f64::from(all).powf(1.0 / count as f64);
+                rising((1..=count as i32).map(|k| times.powi(k) as u32).collect())
+            }
+            Spread::Crowded => (0..count as u32).map(|k| longest.saturating_mul(2) + k).collect(),
         }
     }
 }

@@ -3,8 +3,9 @@
 //! both programs in each by turns, checks that they print the same bytes, and
 //! prints the least time on the processor and the peak memory of each. The
 //! plain one runs by whichever of its methods is fastest in that folder. WORD
-//! leaves only the lines that have it; with the word `limits` the folders are
-//! others, some 300 at the limits, each for a shorter time.
+//! leaves only the lines that have it; with the word `limits` or `mixed` the
+//! folders are others, some 300 at the limits, each for a shorter time: the
+//! first over rings, the second over networks of all shapes, drawn at random.
 
 use std::fs::{self, File};
 use std::io;
@@ -13,7 +14,7 @@ use std::path::{Path, PathBuf};
 use std::process::Command;
 
 use reference::counts::Method;
-use reference::random::{self, Rng, Spread, Spread::Even, Spread::Far, Spread::Short};
+use reference::random::{self, Rng, Shape, Spread, Spread::Even, Spread::Far, Spread::Short};
 use reference::table::FILES;
 use reference::text::MAX_TEXT;
 
@@ -21,6 +22,9 @@ struct Case {
     what: &'static str,
     nodes: u32,
     legs: usize,
+    /// Of what shape the network is, which settles its legs; if of none, it is
+    /// a ring with so many.
+    shape: Option<Shape>,
     /// No leg is longer; short ones leave room for more rows in a text.
     longest: u32,
     sets: u32,
@@ -33,33 +37,33 @@ struct Case {
 
 #[rustfmt::skip]
 const CASES: [Case; 27] = [
-    Case { what: "tiny", nodes: 4, legs: 4, longest: 9, sets: 3, per_set: 4, on_legs: 0, thresholds: 4, spread: Even },
-    Case { what: "reports 0", nodes: 512, legs: 1_024, longest: 999, sets: 1, per_set: 900, on_legs: 0, thresholds: 64, spread: Even },
-    Case { what: "reports 1", nodes: 512, legs: 1_024, longest: 999, sets: 1, per_set: 1_000, on_legs: 0, thresholds: 64, spread: Even },
-    Case { what: "reports 2", nodes: 512, legs: 1_024, longest: 999, sets: 1, per_set: 2_000, on_legs: 0, thresholds: 64, spread: Even },
-    Case { what: "reports 3", nodes: 512, legs: 1_024, longest: 999, sets: 1, per_set: 4_000, on_legs: 0, thresholds: 64, spread: Even },
-    Case { what: "reports 4", nodes: 512, legs: 1_024, longest: 9, sets: 1, per_set: 6_600, on_legs: 0, thresholds: 64, spread: Even },
-    Case { what: "legs 1", nodes: 32, legs: 64, longest: 999, sets: 1, per_set: 5_000, on_legs: 0, thresholds: 64, spread: Even },
-    Case { what: "legs 2", nodes: 128, legs: 256, longest: 999, sets: 1, per_set: 5_000, on_legs: 0, thresholds: 64, spread: Even },
-    Case { what: "legs 3", nodes: 512, legs: 1_024, longest: 999, sets: 1, per_set: 5_000, on_legs: 0, thresholds: 64, spread: Even },
-    Case { what: "thresholds 1", nodes: 512, legs: 1_024, longest: 999, sets: 1, per_set: 5_000, on_legs: 0, thresholds: 1, spread: Even },
-    Case { what: "thresholds 2", nodes: 512, legs: 1_024, longest: 999, sets: 1, per_set: 5_000, on_legs: 0, thresholds: 8, spread: Even },
-    Case { what: "thresholds 3", nodes: 512, legs: 1_024, longest: 9, sets: 1, per_set: 6_600, on_legs: 0, thresholds: 8, spread: Far },
-    Case { what: "far threshold 1", nodes: 512, legs: 1_024, longest: 9, sets: 1, per_set: 6_600, on_legs: 0, thresholds: 64, spread: Far },
-    Case { what: "far threshold 2", nodes: 512, legs: 1_024, longest: 999, sets: 1, per_set: 5_000, on_legs: 0, thresholds: 64, spread: Far },
-    Case { what: "far threshold 3", nodes: 512, legs: 1_024, longest: 999, sets: 1, per_set: 6_500, on_legs: 9, thresholds: 64, spread: Far },
-    Case { what: "short thresholds 1", nodes: 512, legs: 1_024, longest: 999, sets: 1, per_set: 5_000, on_legs: 0, thresholds: 64, spread: Short },
-    Case { what: "short thresholds 2", nodes: 512, legs: 1_024, longest: 999, sets: 1, per_set: 6_500, on_legs: 9, thresholds: 64, spread: Short },
-    Case { what: "short thresholds 3", nodes: 512, legs: 1_024, longest: 9, sets: 1, per_set: 8_192, on_legs: 9, thresholds: 8, spread: Short },
-    Case { what: "short thresholds 4", nodes: 512, legs: 1_024, longest: 999_999, sets: 1, per_set: 4_000, on_legs: 9, thresholds: 64, spread: Short },
-    Case { what: "32 sets", nodes: 512, legs: 1_024, longest: 999, sets: 32, per_set: 155, on_legs: 0, thresholds: 64, spread: Even },
-    Case { what: "few legs 1", nodes: 512, legs: 1_024, longest: 9, sets: 1, per_set: 8_192, on_legs: 9, thresholds: 64, spread: Even },
-    Case { what: "few legs 2", nodes: 512, legs: 1_024, longest: 9, sets: 1, per_set: 8_192, on_legs: 9, thresholds: 8, spread: Even },
-    Case { what: "few legs 3", nodes: 512, legs: 1_024, longest: 999, sets: 1, per_set: 6_500, on_legs: 9, thresholds: 64, spread: Even },
-    Case { what: "few legs 4", nodes: 512, legs: 1_024, longest: 9, sets: 32, per_set: 240, on_legs: 9, thresholds: 64, spread: Even },
-    Case { what: "few legs 5", nodes: 512, legs: 1_024, longest: 9, sets: 32, per_set: 240, on_legs: 9, thresholds: 1, spread: Even },
-    Case { what: "one leg 1", nodes: 512, legs: 1_024, longest: 9, sets: 1, per_set: 8_192, on_legs: 1, thresholds: 64, spread: Even },
-    Case { what: "one leg 2", nodes: 512, legs: 1_024, longest: 9, sets: 32, per_set: 240, on_legs: 1, thresholds: 64, spread: Even },
+    Case { what: "tiny", nodes: 4, legs: 4, shape: None, longest: 9, sets: 3, per_set: 4, on_legs: 0, thresholds: 4, spread: Even },
+    Case { what: "reports 0", nodes: 512, legs: 1_024, shape: None, longest: 999, sets: 1, per_set: 900, on_legs: 0, thresholds: 64, spread: Even },
+    Case { what: "reports 1", nodes: 512, legs: 1_024, shape: None, longest: 999, sets: 1, per_set: 1_000, on_legs: 0, thresholds: 64, spread: Even },
+    Case { what: "reports 2", nodes: 512, legs: 1_024, shape: None, longest: 999, sets: 1, per_set: 2_000, on_legs: 0, thresholds: 64, spread: Even },
+    Case { what: "reports 3", nodes: 512, legs: 1_024, shape: None, longest: 999, sets: 1, per_set: 4_000, on_legs: 0, thresholds: 64, spread: Even },
+    Case { what: "reports 4", nodes: 512, legs: 1_024, shape: None, longest: 9, sets: 1, per_set: 6_600, on_legs: 0, thresholds: 64, spread: Even },
+    Case { what: "legs 1", nodes: 32, legs: 64, shape: None, longest: 999, sets: 1, per_set: 5_000, on_legs: 0, thresholds: 64, spread: Even },
+    Case { what: "legs 2", nodes: 128, legs: 256, shape: None, longest: 999, sets: 1, per_set: 5_000, on_legs: 0, thresholds: 64, spread: Even },
+    Case { what: "legs 3", nodes: 512, legs: 1_024, shape: None, longest: 999, sets: 1, per_set: 5_000, on_legs: 0, thresholds: 64, spread: Even },
+    Case { what: "thresholds 1", nodes: 512, legs: 1_024, shape: None, longest: 999, sets: 1, per_set: 5_000, on_legs: 0, thresholds: 1, spread: Even },
+    Case { what: "thresholds 2", nodes: 512, legs: 1_024, shape: None, longest: 999, sets: 1, per_set: 5_000, on_legs: 0, thresholds: 8, spread: Even },
+    Case { what: "thresholds 3", nodes: 512, legs: 1_024, shape: None, longest: 9, sets: 1, per_set: 6_600, on_legs: 0, thresholds: 8, spread: Far },
+    Case { what: "far threshold 1", nodes: 512, legs: 1_024, shape: None, longest: 9, sets: 1, per_set: 6_600, on_legs: 0, thresholds: 64, spread: Far },
+    Case { what: "far threshold 2", nodes: 512, legs: 1_024, shape: None, longest: 999, sets: 1, per_set: 5_000, on_legs: 0, thresholds: 64, spread: Far },
+    Case { what: "far threshold 3", nodes: 512, legs: 1_024, shape: None, longest: 999, sets: 1, per_set: 6_500, on_legs: 9, thresholds: 64, spread: Far },
+    Case { what: "short thresholds 1", nodes: 512, legs: 1_024, shape: None, longest: 999, sets: 1, per_set: 5_000, on_legs: 0, thresholds: 64, spread: Short },
+    Case { what: "short thresholds 2", nodes: 512, legs: 1_024, shape: None, longest: 999, sets: 1, per_set: 6_500, on_legs: 9, thresholds: 64, spread: Short },
+    Case { what: "short thresholds 3", nodes: 512, legs: 1_024, shape: None, longest: 9, sets: 1, per_set: 8_192, on_legs: 9, thresholds: 8, spread: Short },
+    Case { what: "short thresholds 4", nodes: 512, legs: 1_024, shape: None, longest: 999_999, sets: 1, per_set: 4_000, on_legs: 9, thresholds: 64, spread: Short },
+    Case { what: "32 sets", nodes: 512, legs: 1_024, shape: None, longest: 999, sets: 32, per_set: 155, on_legs: 0, thresholds: 64, spread: Even },
+    Case { what: "few legs 1", nodes: 512, legs: 1_024, shape: None, longest: 9, sets: 1, per_set: 8_192, on_legs: 9, thresholds: 64, spread: Even },
+    Case { what: "few legs 2", nodes: 512, legs: 1_024, shape: None, longest: 9, sets: 1, per_set: 8_192, on_legs: 9, thresholds: 8, spread: Even },
+    Case { what: "few legs 3", nodes: 512, legs: 1_024, shape: None, longest: 999, sets: 1, per_set: 6_500, on_legs: 9, thresholds: 64, spread: Even },
+    Case { what: "few legs 4", nodes: 512, legs: 1_024, shape: None, longest: 9, sets: 32, per_set: 240, on_legs: 9, thresholds: 64, spread: Even },
+    Case { what: "few legs 5", nodes: 512, legs: 1_024, shape: None, longest: 9, sets: 32, per_set: 240, on_legs: 9, thresholds: 1, spread: Even },
+    Case { what: "one leg 1", nodes: 512, legs: 1_024, shape: None, longest: 9, sets: 1, per_set: 8_192, on_legs: 1, thresholds: 64, spread: Even },
+    Case { what: "one leg 2", nodes: 512, legs: 1_024, shape: None, longest: 9, sets: 32, per_set: 240, on_legs: 1, thresholds: 64, spread: Even },
 ];
 
 /// What a line of this word is of.
@@ -73,7 +77,7 @@ fn limits() -> Vec<Case> {
         for thresholds in [1, 2, 4, 8, 16, 64] {
             for spread in [Even, Short, Far] {
                 for (longest, per_set) in [(9, if (1..=9).contains(&on_legs) { 8_192 } else { 6_600 }), (999, 5_000), (999_999, 4_000)] {
-                    cases.push(Case { what: LIMITS, nodes: 512, legs: 1_024, longest, sets: 1, per_set, on_legs, thresholds, spread });
+                    cases.push(Case { what: LIMITS, nodes: 512, legs: 1_024, shape: None, longest, sets: 1, per_set, on_legs, thresholds, spread });
                 }
             }
         }
@@ -81,22 +85,64 @@ fn limits() -> Vec<Case> {
     cases
 }
 
+/// What a line of this word is of.
+const MIXED: &str = "mixed";
+
+/// Folders drawn at random: 512 nodes, and up to as many reports as fit into a
+/// text.
+fn mixed() -> Vec<Case> {
+    let mut rng = Rng::new(1_116);
+    let mut draw = || {
+        let sets = rng.pick(&[1, 1, 1, 4, 32], 1);
+        Case {
+            what: MIXED,
+            nodes: 512,
+            legs: 0,
+            shape: Some(rng.pick(&Shape::ALL, Shape::Ring)),
+            longest: rng.pick(&[9, 99, 999, 9_999, 999_999], 9),
+            sets,
+            per_set: rng.pick(&[8_192, 8_192, 4_000, 2_000], 0) / sets as usize,
+            on_legs: rng.pick(&[0, 0, 0, 1, 3, 9, 9, 30, 100, 300], 0),
+            thresholds: rng.pick(&[1, 2, 3, 4, 8, 16, 32, 64, 64], 1),
+            spread: rng.pick(&Spread::ALL, Even),
+        }
+    };
+    (0..300).map(|_| draw()).collect()
+}
+
 /// The first cell of a case's line.
 fn label(case: &Case) -> String {
-    match case.what {
-        LIMITS => format!("{LIMITS}, legs of {}, {}", case.longest, case.spread.name()),
-        what => what.to_string(),
+    match (case.what, case.shape) {
+        (MIXED, Some(shape)) => format!("{}, legs of {}, {}", shape.name(), case.longest, case.spread.name()),
+        (LIMITS, _) => format!("{LIMITS}, legs of {}, {}", case.longest, case.spread.name()),
+        (what, _) => what.to_string(),
     }
 }
 
-/// The folder of a case, filled. The same bytes every time.
-fn lay(folder: &Path, case: &Case) -> io::Result<PathBuf> {
+/// A case's folder, with the legs and the reports of a set that are in it.
+struct Laid {
+    folder: PathBuf,
+    legs: usize,
+    per_set: usize,
+}
+
+/// The folder of a case, filled. The same bytes every time. Of a mixed one as
+/// many reports are left out as do not fit.
+fn lay(folder: &Path, case: &Case) -> io::Result<Laid> {
     let name = format!("{} {} {}", label(case), case.on_legs, case.thresholds);
     let folder = folder.join(name.replace([' ', ','], "_"));
     fs::create_dir_all(&folder)?;
     let mut rng = Rng::new(2026);
-    let network = random::ring_network(&mut rng, case.nodes, case.legs, case.longest);
-    let reports = random::reports(&mut rng, &network, case.sets, case.per_set, case.on_legs);
+    let network = match case.shape {
+        Some(shape) => shape.network(&mut rng, case.nodes, case.longest),
+        None => random::ring_network(&mut rng, case.nodes, case.legs, case.longest),
+    };
+    let mut per_set = case.per_set;
+    let mut reports = random::reports(&mut rng, &network, case.sets, per_set, case.on_legs);
+    while case.what == MIXED && random::reports_text(&mut Rng::new(1), &reports).len() > MAX_TEXT - 8 {
+        per_set -= per_set / 50 + 1;
+        reports = random::reports(&mut rng, &network, case.sets, per_set, case.on_legs);
+    }
     let thresholds = case.spread.thresholds(case.thresholds, case.longest);
     let texts = [
         random::network_text(&mut rng, &network),
@@ -107,7 +153,7 @@ fn lay(folder: &Path, case: &Case) -> io::Result<PathBuf> {
         assert!(text.len() <= MAX_TEXT, "{}: {name} has {} bytes", case.what, text.len());
         fs::write(folder.join(name), text)?;
     }
-    Ok(folder)
+    Ok(Laid { folder, legs: network.lengths.len(), per_set })
 }
 
 /// As the C library has it on 64-bit Linux: two times, then the peak in KB and
@@ -195,17 +241,29 @@ fn main() -> io::Result<()> {
     println!("|---|---|---|---|---|---|---|---|---|---|---|");
     let (cases, millis) = match word.as_str() {
         LIMITS => (limits(), 400.0),
+        MIXED => (mixed(), 400.0),
         _ => (CASES.into_iter().filter(|case| case.what.contains(&word)).collect(), 2_000.0),
     };
+    let mut ratios = Vec::new();
     for case in &cases {
-        let folder = lay(Path::new(&folder), case)?;
-        let method = best(&plain, &folder)?;
-        let [a, b] = compare([(&proved, None), (&plain, Some(method))], &folder, millis)?;
-        let on_legs = if case.on_legs == 0 { case.legs } else { case.on_legs };
+        let laid = lay(Path::new(&folder), case)?;
+        let method = best(&plain, &laid.folder)?;
+        let [a, b] = compare([(&proved, None), (&plain, Some(method))], &laid.folder, millis)?;
+        let on_legs = if case.on_legs == 0 { laid.legs } else { case.on_legs.min(laid.legs) };
+        let ratio = a.time / b.time;
         println!(
-            "| {} | {}, {} | {} of {} | {} | {} | {:.2} | {:.2} | {} | {:.2} | {} | {} |",
-            label(case), case.nodes, case.legs, case.sets, case.per_set, on_legs, case.thresholds,
-            a.time, b.time, method.name(), a.time / b.time, a.peak, b.peak,
+            "| {} | {}, {} | {} of {} | {} | {} | {:.2} | {:.2} | {} | {ratio:.2} | {} | {} |",
+            label(case), case.nodes, laid.legs, case.sets, laid.per_set, on_legs, case.thresholds,
+            a.time, b.time, method.name(), a.peak, b.peak,
+        );
+        ratios.push(ratio);
+    }
+    ratios.sort_by(f64::total_cmp);
+    if let (Some(least), Some(greatest)) = (ratios.first(), ratios.last()) {
+        let above = |limit: f64| ratios.iter().filter(|&&ratio| ratio > limit).count();
+        println!(
+            "\n{} folders: ratios from {least:.2} to {greatest:.2}, the middle one {:.2}; {} above 0.95, {} above 1, {} above 1.05.",
+            ratios.len(), ratios[ratios.len() / 2], above(0.95), above(1.0), above(1.05),
         );
     }
     Ok(())
