@@ -58,10 +58,6 @@ pub record EndsRead (nodes : ℕ) (firsts seconds : List ℕ) (i : ℕ) : Type 0
   pub second-to : getD seconds i 0 ≤ nodes
   pub nodes-to : nodes ≤ maxNodes
 
--- the metres of a table entry, which is one more; far above every threshold where it is none
-unfoldable pub way : ℕ → ℕ
-way entry = cond (eqb entry 0) 1099511627776 (pred entry)
-
 -- two edges, by their indices, with the table entries between their ends
 unfoldable pub edgePair : Network → List ℕ → ℕ → ℕ → EdgePair
 edgePair net table i j =

@@ -7,7 +7,8 @@ ghost use lib.ListN.{length, getD};
 ghost use Rattle.model.specs.Limits.{maxNodes, maxEvents, maxPairs};
 ghost use Rattle.model.specs.Network.{network};
 ghost use Rattle.prepare.specs.EndTable.{EndTable};
-ghost use Rattle.count_augmentation.specs.Pairs.{lesserEntry, leastEntry, way, rowsOf, inRow, EndsRead, InRow, InRows, Apart, edgePair, toFirst, toSecond, reachedBy, reachedPairs, lookedUpBy, lookedUpPairs, TwoRuns};
+ghost use Rattle.prepare.specs.Ways.{way};
+ghost use Rattle.count_augmentation.specs.Pairs.{lesserEntry, leastEntry, rowsOf, inRow, EndsRead, InRow, InRows, Apart, edgePair, toFirst, toSecond, reachedBy, reachedPairs, lookedUpBy, lookedUpPairs, TwoRuns};
 ghost use Rattle.count_augmentation.specs.Reach.{Run};
 ghost use Rattle.count_augmentation.specs.Storing.{NumbersStored, storedLast};
 use crate::reach::count_reached;
@@ -16,6 +17,7 @@ use crate::reach::reach_by;
 use model::equals_end;
 use model::greater;
 use model::lesser;
+use prepare::way;
 
 // Two edges: their lengths, the table entries from each end of the one to each end of the other, whether they are one edge, and the
 // entry of the least way between them.
@@ -148,17 +150,6 @@ fn is_beyond(g: EdgePair, threshold: u32) -> bool
         return false;
     }
     reach_by(threshold, 0, g.least) == 0
-}
-
-// The metres of a table entry, which is one more, and 0 for none: far above every threshold.
-fn way(entry: u32) -> u64
-    ensures { λ r. ⌜ r ≡ way entry ⌝ }
-{
-    if entry == 0 {
-        1099511627776
-    } else {
-        entry as u64 - 1
-    }
 }
 
 // The metres of two ways together.

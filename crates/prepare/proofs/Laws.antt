@@ -12,6 +12,7 @@ pub mod Preparing
 pub mod LaidEvents
 pub mod InRuns
 pub mod Entries
+pub mod Ways
 pub mod RunSums
 pub mod RunEvents
 pub mod CountRows

@@ -1,6 +1,7 @@
 -- What every counting method starts from and ends in; then what the functions that make it keep on the way.
 pub mod Counts
 pub mod Prepared
+pub mod Ways
 pub mod RunPairs
 pub mod Totals
 pub mod EndTable

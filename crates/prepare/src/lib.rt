@@ -4,6 +4,7 @@ mod ends;
 mod laying_out;
 mod runs;
 mod sets;
+mod ways;
 
 ghost use Rattle.model.specs.Network.{network};
 ghost use Rattle.prepare.specs.Prepared.{Ready, LeftOnRefusal};
@@ -13,6 +14,8 @@ use laying_out::lay_runs;
 use model::Check;
 use model::EventSet;
 use model::Network;
+pub use ways::FAR;
+pub use ways::way;
 
 // An entry for each event.
 pub type Laid = [u32; EventSet::MAX_EVENTS];

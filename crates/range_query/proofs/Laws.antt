@@ -4,7 +4,6 @@ pub mod Tally
 pub mod Steps
 pub mod Cells
 pub mod Ladder
-pub mod Ways
 pub mod Table
 pub mod Blocks
 pub mod Runs

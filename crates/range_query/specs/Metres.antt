@@ -9,15 +9,8 @@ use Rattle.model.specs.Location.{Side, at-first, at-second, endNode}
 use Rattle.model.specs.Limits.{maxLength}
 use Rattle.model.specs.Network.{Network, size}
 use Rattle.prepare.specs.Prepared.{entry}
+use Rattle.prepare.specs.Ways.{far, way}
 use Rattle.range_query.specs.declared.metres.EdgePair.{EdgePair}
-
--- what stands for no way: far above every threshold
-abbrev pub far : ℕ
-far = 1099511627776
-
--- the metres that a table entry gives
-unfoldable pub way : ℕ → ℕ
-way code = cond (eqb code 0) far (pred code)
 
 -- from an offset to the first and to the second end of the other edge
 unfoldable pub toFirst : EdgePair → ℕ → ℕ

@@ -4,19 +4,20 @@ ghost use Prim.Native.Nat.{pred, min, _+_, _-_, _*_, _≤_, _<_};
 ghost use lib.ListN.{length, getD};
 ghost use Rattle.model.specs.Network.{network};
 ghost use Rattle.prepare.specs.EndTable.{EndTable, TableEntry};
-ghost use Rattle.range_query.specs.Metres.{Ways, far, way, edgePair};
+ghost use Rattle.prepare.specs.Ways.{far, way};
+ghost use Rattle.range_query.specs.Metres.{Ways, edgePair};
 ghost use Rattle.range_query.specs.Runs.{Block, blockMetres, pairsWithin};
 ghost use Rattle.range_query.specs.Tally.{Steps, Added, Room};
 use crate::metres::EdgePair;
 use crate::metres::place_on;
 use crate::metres::to_first;
 use crate::metres::to_second;
-use crate::metres::way;
 use crate::metres::wide;
 use crate::tally::BUCKETS;
 use crate::tally::LADDER;
 use crate::whole::one_bucket;
 use crate::whole::tally_row;
+use prepare::way;
 
 pub(crate) fn earlier(a: usize, b: usize) -> usize
     ensures { λ r. ⌜ r ≡ min a b ⌝ }

@@ -1,12 +1,10 @@
 // The metres between two events: the ways between their edges' ends are read once for two edges.
 ghost use mathlib.Core.Path.{_≡_};
 ghost use Prim.Native.Nat.{_≤_};
-ghost use Rattle.range_query.specs.Metres.{Ways, way, toFirst, toSecond, placeOn, meet};
+ghost use Rattle.range_query.specs.Metres.{Ways, toFirst, toSecond, placeOn, meet};
 use model::apart;
 use model::lesser;
-
-// Stands for no way: above every threshold, and so are the sums it stands in.
-pub(crate) const FAR: u64 = 1099511627776;
+use prepare::FAR;
 
 // One more than the greatest threshold that there may be.
 pub(crate) const BEYOND: u64 = 4294967296;
@@ -26,13 +24,6 @@ pub(crate) fn wide(x: u32) -> u64
     ensures { λ r. ⌜ r ≡ x ⌝ }
 {
     x as u64
-}
-
-// The metres of a table entry, which is one more, and 0 for none.
-pub(crate) fn way(code: u32) -> u64
-    ensures { λ r. ⌜ r ≡ way code ⌝ }
-{
-    if code == 0 { FAR } else { code as u64 - 1 }
 }
 
 // From an offset to the first end of the other edge.

@@ -9,12 +9,12 @@ ghost use Rattle.range_query.specs.Runs.{OneBucket};
 ghost use Rattle.range_query.specs.Tally.{Steps, Added, RowBucket, RowFits};
 use crate::metres::BEYOND;
 use crate::metres::EdgePair;
-use crate::metres::FAR;
 use crate::tally::BUCKETS;
 use crate::tally::LADDER;
 use crate::tally::bucket_between;
 use crate::tally::row;
 use model::lesser;
+use prepare::FAR;
 
 // Fewer offsets are tallied one by one.
 const LONG: usize = 32;

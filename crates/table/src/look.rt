@@ -9,6 +9,7 @@ use crate::amounts::sum;
 use model::Network;
 use model::less;
 use model::lesser;
+use prepare::way;
 
 // The edges with events and, all events added up, the metres of an event's edge, the events on it and the thresholds shorter than it.
 pub struct Occupied {
@@ -29,9 +30,6 @@ pub struct Ways {
 
 // A count for each edge number, which begin with 1.
 pub const COUNTS: usize = Network::MAX_EDGES + 1;
-
-// Stands for no way.
-const FAR: u64 = 1099511627776;
 
 // One more, cut off.
 fn raised(count: u32) -> u32 {
@@ -97,15 +95,12 @@ fn no_ways() -> Ways {
     }
 }
 
-// The metres that a code stands for.
-fn metres_of(code: u64) -> u64 {
-    if code == 0 {
-        return FAR;
-    }
-    code - 1
+// The way to a node by its code.
+fn way_to(codes: &[u32], node: u64) -> u64 {
+    way(entry_of(codes, node) as u32)
 }
 
-// With one edge more, by the codes of the ways to its ends: as if from the middle of the edge that they begin at, whose length is own.
+// With one edge more, by the ways to its ends: as if from the middle of the edge that they begin at, whose length is own.
 fn with_way(
     ways: Ways,
     count: u64,
@@ -115,14 +110,12 @@ fn with_way(
     own: u64,
     thresholds: &[u32],
 ) -> Ways {
-    let one = metres_of(first);
-    let other = metres_of(second);
     let all = thresholds.len() as u64;
-    let beyond = count_below(thresholds, less(lesser(one, other), own / 2));
+    let beyond = count_below(thresholds, less(lesser(first, second), own / 2));
     if beyond == all {
         return ways;
     }
-    let around = sum(sum(one, other), sum(length, own));
+    let around = sum(sum(first, second), sum(length, own));
     let crossing = less(count_below(thresholds, around / 2), beyond);
     Ways {
         met: sum(ways.met, 1),
@@ -149,8 +142,8 @@ fn ways_by(
         let count = entry(counts, e);
         let number = e as u64;
         if 0 < count && number != edge {
-            let first = entry_of(codes, entry_of(firsts, number));
-            let second = entry_of(codes, entry_of(seconds, number));
+            let first = way_to(codes, entry_of(firsts, number));
+            let second = way_to(codes, entry_of(seconds, number));
             let length = entry_of(lengths, number);
             ways = with_way(ways, count, first, second, length, own, thresholds);
         }

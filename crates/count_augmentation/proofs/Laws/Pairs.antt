@@ -14,7 +14,8 @@ use Rattle.model.specs.Limits.{maxPairs}
 use Rattle.model.specs.Network.{Network, first, second, size}
 use Rattle.prepare.specs.Prepared.{entry}
 use Rattle.prepare.specs.Totals.{AddedAt}
-use Rattle.count_augmentation.specs.Pairs.{lesserEntry, leastEntry, way, rowsOf, inRow, edgePair, toFirst, toSecond, reachedBy, reachedPairs, lookedUpBy, lookedUpPairs, TwoRuns, TwoRunsStored}
+use Rattle.prepare.specs.Ways.{way}
+use Rattle.count_augmentation.specs.Pairs.{lesserEntry, leastEntry, rowsOf, inRow, edgePair, toFirst, toSecond, reachedBy, reachedPairs, lookedUpBy, lookedUpPairs, TwoRuns, TwoRunsStored}
 use Rattle.count_augmentation.specs.Reach.{reachOf, farthest, reached, Run}
 use Rattle.count_augmentation.specs.Storing.{NumbersStored, storedLast}
 use Rattle.count_augmentation.specs.declared.pairs.EdgePair.{EdgePair}
@@ -50,12 +51,6 @@ reach-small t a (suc entry) = rw (eqb·suc-zero entry) (omega arith)
 pub farthest-small : (t p x by-first by-second : ℕ) → farthest t p x by-first by-second ≤ suc t
 unfolding farthest
 farthest-small t p x f s = omega (arith, reach-small t x f, reach-small t (p - x) s)
-
--- no way has more metres than stand for none
-pub way-small : (entry : ℕ) → entry ≤ 4294967295 → way entry ≤ 1099511627776
-unfolding way
-way-small zero h = omega arith
-way-small (suc entry) h = rw (eqb·suc-zero entry) (omega arith)
 
 -- a reach by the metres of the way: where there is none they are past every threshold
 reach-way : (t a entry : ℕ) → t ≤ 4294967295 → reachOf t a entry ≡ suc t - (a + way entry)

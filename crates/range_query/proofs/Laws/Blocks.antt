@@ -11,7 +11,7 @@ use lib.ListN.{length, getD}
 use Rattle.model.specs.Counting.{one-if, countBelow, sumBelow}
 use Rattle.model.proofs.Laws.Counting.{sum-below-cong}
 use Rattle.model.proofs.Laws.Pieces.{part, part-length, part-at}
-use Rattle.range_query.specs.Metres.{far, meet, metres, toFirst, toSecond, placeOn}
+use Rattle.range_query.specs.Metres.{meet, metres, toFirst, toSecond, placeOn}
 use Rattle.range_query.specs.Runs.{Block, pairsWithin, blockMetres}
 use Rattle.range_query.specs.Tally.{Steps, Added, Room, RowFits, sumBetween}
 use Rattle.range_query.specs.declared.metres.EdgePair.{EdgePair}

@@ -16,7 +16,8 @@ use Rattle.model.specs.PairCount.{eventDistance}
 use Rattle.model.proofs.Laws.Routes.{reaches-code, event-within}
 use Rattle.model.proofs.Laws.Within.{within-least}
 use Rattle.prepare.specs.Prepared.{entry}
-use Rattle.range_query.specs.Metres.{far, way, meet, metres, toFirst, toSecond, placeOn, between, edgePair}
+use Rattle.prepare.specs.Ways.{far, way}
+use Rattle.range_query.specs.Metres.{meet, metres, toFirst, toSecond, placeOn, between, edgePair}
 use Rattle.range_query.specs.declared.metres.EdgePair.{EdgePair}
 
 -- the lesser of two is within t if one of them is

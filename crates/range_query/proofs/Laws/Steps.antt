@@ -1,5 +1,5 @@
 -- Looking for the first step that admits a number of metres: the steps in question halve.
-use mathlib.Core.Bool.{cond}
+use mathlib.Core.Bool.{Bool, true, false, cond}
 use mathlib.Core.List.{List}
 use mathlib.Core.Path.{_≡_, sym, _∙_}
 use Prim.Native.Nat.{ℕ, suc, _+_, _-_, _≤_, _<_}
@@ -13,6 +13,11 @@ use Rattle.range_query.specs.Tally.{Steps, Bracket, Bucket, Celled}
 -- before any step is looked at
 pub bracket-all : (steps : List ℕ) (d : ℕ) → Bracket steps d 0 64
 bracket-all steps d = record { fits = omega arith; passed = λ k h. omega arith; ahead = λ k h l. omega arith }
+
+-- what is taken or not is at most all
+pub taken-to : (b : Bool) (n : ℕ) → cond b n 0 ≤ n
+taken-to true n = omega arith
+taken-to false n = omega arith
 
 -- the last of the first half steps passed or not
 pub bracket-half : (steps : List ℕ) (d pos half rest : ℕ) → Steps steps → 1 ≤ half → half ≤ suc rest → Bracket steps d pos (half + rest) → Bracket steps d (pos + cond (ltb (getD steps (pos + half - 1) 0) d) half 0) rest

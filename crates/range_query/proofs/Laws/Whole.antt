@@ -9,7 +9,8 @@ use lib.Dec.{leb}
 use lib.ListN.{length, getD, set}
 use Rattle.model.specs.Counting.{one-if, countBelow}
 use Rattle.model.specs.Distance.{difference}
-use Rattle.range_query.specs.Metres.{Ways, far, metres, meet, toFirst, toSecond, placeOn, leastWay, fourRoutes}
+use Rattle.prepare.specs.Ways.{far}
+use Rattle.range_query.specs.Metres.{Ways, metres, meet, toFirst, toSecond, placeOn, leastWay, fourRoutes}
 use Rattle.range_query.specs.Runs.{Block, OneBucket, blockMetres, pairsWithin}
 use Rattle.range_query.specs.Tally.{Steps, Bracket, Bucket, Between, RowBucket, RowFits, Added, Room}
 use Rattle.range_query.specs.declared.metres.EdgePair.{EdgePair}

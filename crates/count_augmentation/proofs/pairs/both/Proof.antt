@@ -1,7 +1,7 @@
 -- The sum of two ways.
 use Prim.Native.Nat.{_+_, _≤_}
 use native.Mathlib.Omega.{arith}
-use Rattle.count_augmentation.proofs.Laws.Pairs.{way-small}
+use Rattle.prepare.proofs.Laws.Ways.{way-to}
 use borrow.Author.Needs.{needs}
 use Rattle.count_augmentation.proofs.pairs.both.Statement.{statement}
 use Rattle.count_augmentation.proofs.pairs.both.Tie as tie
@@ -14,7 +14,7 @@ way-requires-2 c κs = search needs
 
 -- neither has more metres than stand for none
 small : (c : tie.After-way2) → c .before .way .result + c .way2 .result ≤ 2199023255552
-small c = omega (arith, way-small (c .before .before .args .a) (omega arith), way-small (c .before .before .args .b) (omega arith), c .before .way .ensures, c .way2 .ensures)
+small c = omega (arith, way-to (c .before .before .args .a) (omega arith), way-to (c .before .before .args .b) (omega arith), c .before .way .ensures, c .way2 .ensures)
 
 add-result : tie.Need-add-result
 add-result c = omega (arith, small c)

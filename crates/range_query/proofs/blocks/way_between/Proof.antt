@@ -1,7 +1,7 @@
 -- The entry lies in the table, since both nodes are the network's.
 use native.Mathlib.Omega.{arith}
 use Rattle.prepare.proofs.Laws.Square.{in-square, square-small, place-as}
-use Rattle.range_query.proofs.Laws.Ways.{way-to}
+use Rattle.prepare.proofs.Laws.Ways.{way-to}
 use borrow.Author.Needs.{needs}
 use Rattle.range_query.proofs.blocks.way_between.Statement.{statement}
 use Rattle.range_query.proofs.blocks.way_between.Tie as tie

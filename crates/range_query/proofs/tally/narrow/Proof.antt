@@ -2,8 +2,7 @@
 use Prim.Native.Nat.{_+_, _-_, _≤_}
 use lib.Dec.{ltb}
 use lib.ListN.{getD}
-use Rattle.range_query.proofs.Laws.Steps.{bracket-half}
-use Rattle.range_query.proofs.Laws.Ways.{taken-to}
+use Rattle.range_query.proofs.Laws.Steps.{taken-to, bracket-half}
 use native.Mathlib.Omega.{arith}
 use borrow.Author.Needs.{needs}
 use Rattle.range_query.proofs.tally.narrow.Statement.{statement}

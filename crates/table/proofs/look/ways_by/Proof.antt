@@ -25,17 +25,17 @@ entry-requires c κs = search needs
 entry-of-requires-2 : tie.Need-entry-of-requires-2 Inv-loop μ-loop
 entry-of-requires-2 c κs = search needs
 
+way-to-requires : tie.Need-way-to-requires Inv-loop μ-loop
+way-to-requires c κs = search needs
+
 entry-of-requires-3 : tie.Need-entry-of-requires-3 Inv-loop μ-loop
 entry-of-requires-3 c κs = search needs
 
+way-to-requires-2 : tie.Need-way-to-requires-2 Inv-loop μ-loop
+way-to-requires-2 c κs = search needs
+
 entry-of-requires-4 : tie.Need-entry-of-requires-4 Inv-loop μ-loop
 entry-of-requires-4 c κs = search needs
-
-entry-of-requires-5 : tie.Need-entry-of-requires-5 Inv-loop μ-loop
-entry-of-requires-5 c κs = search needs
-
-entry-of-requires-6 : tie.Need-entry-of-requires-6 Inv-loop μ-loop
-entry-of-requires-6 c κs = search needs
 
 with-way-requires : tie.Need-with-way-requires Inv-loop μ-loop
 with-way-requires c κs = search needs
@@ -63,10 +63,10 @@ ways-by-spec =
     loop-holds
     entry-requires
     entry-of-requires-2
+    way-to-requires
     entry-of-requires-3
+    way-to-requires-2
     entry-of-requires-4
-    entry-of-requires-5
-    entry-of-requires-6
     with-way-requires
     add-e
     loop-less

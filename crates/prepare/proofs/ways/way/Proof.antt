@@ -1,9 +1,9 @@
 -- An entry of 0 is no way; any other is one more than the metres.
 use mathlib.Core.Path.{sym}
-use Rattle.range_query.proofs.Laws.Ways.{way-none, way-some}
+use Rattle.prepare.proofs.Laws.Ways.{way-none, way-some}
 use borrow.Author.Needs.{needs}
-use Rattle.range_query.proofs.metres.way.Statement.{statement}
-use Rattle.range_query.proofs.metres.way.Tie as tie
+use Rattle.prepare.proofs.ways.way.Statement.{statement}
+use Rattle.prepare.proofs.ways.way.Tie as tie
 
 sub-result : tie.Need-sub-result
 sub-result c = search needs

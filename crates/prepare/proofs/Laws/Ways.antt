@@ -1,11 +1,10 @@
 -- The metres of a table entry, and that sums with them do not wrap.
-use mathlib.Core.Bool.{Bool, true, false, cond}
 use mathlib.Core.Path.{_≡_}
 use Prim.Native.Nat.{ℕ, pred, _-_, _≤_, _<_}
 use native.Mathlib.Decide.{ℕ-discrete}
 use native.Mathlib.Omega.{arith}
 use borrow.Author.Tests.{eq-eqb, ne-eqb}
-use Rattle.range_query.specs.Metres.{far, way}
+use Rattle.prepare.specs.Ways.{far, way}
 
 -- no way
 pub way-none : (code : ℕ) → code ≡ 0 → way code ≡ far
@@ -24,8 +23,3 @@ way-to code h = go (ℕ-discrete code 0)
     go : Dec (code ≡ 0) → way code ≤ far
     go (yes e) = omega (arith, way-none code e)
     go (no n) = omega (arith, way-some code n)
-
--- what is taken or not is at most all
-pub taken-to : (b : Bool) (n : ℕ) → cond b n 0 ≤ n
-taken-to true n = omega arith
-taken-to false n = omega arith
