@@ -14,7 +14,7 @@ use std::process::Command;
 
 use common::*;
 use reference::lists::{MAX_LENGTH, MAX_REPORTS};
-use reference::random::{self, Rng, Spread::Even, Spread::Far, Spread::Short};
+use reference::random::{self, Rng, Shape, Spread, Spread::Even, Spread::Far, Spread::Short};
 use reference::table::FILES;
 use reference::text::MAX_TEXT;
 
@@ -250,6 +250,31 @@ fn large_folders() {
         ];
         let told = compare(&proved, &folder, &files);
         assert!(told.starts_with("threshold,"), "{told}");
+    }
+}
+
+/// Networks of every shape with thresholds of every spread, on all legs and on
+/// few.
+#[test]
+fn every_shape() {
+    let Some(proved) = program() else { return };
+    let folder = folder("every_shape");
+    let mut rng = Rng::new(303);
+    for shape in Shape::ALL {
+        for spread in Spread::ALL {
+            for (sets, per_set, on_legs, thresholds) in [(1, 2_000, 0, 64), (3, 600, 7, 5)] {
+                let length = rng.pick(&[9, 400, 20_000], 9);
+                let input = shape.network(&mut rng, 120, length);
+                let reports = random::reports(&mut rng, &input, sets, per_set, on_legs);
+                let files = [
+                    Text(random::network_text(&mut rng, &input)),
+                    Text(random::reports_text(&mut rng, &reports)),
+                    Text(random::thresholds_text(&mut rng, &spread.thresholds(thresholds, length))),
+                ];
+                let told = compare(&proved, &folder, &files);
+                assert!(told.starts_with("threshold,"), "{told}");
+            }
+        }
     }
 }
 
