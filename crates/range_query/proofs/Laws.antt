@@ -8,6 +8,7 @@ pub mod Table
 pub mod Blocks
 pub mod Runs
 pub mod Whole
+pub mod Split
 pub mod Meeting
 pub mod Looping
 pub mod Halves

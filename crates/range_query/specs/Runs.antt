@@ -1,4 +1,5 @@
 -- What the loops over runs ask of the lists that they read, and the pairs that they count.
+use mathlib.Core.Bool.{false}
 use mathlib.Core.List.{List}
 use mathlib.Core.Path.{_≡_}
 use Prim.Native.Nat.{ℕ, suc, _-_, _≤_, _<_, min}
@@ -9,8 +10,8 @@ use Rattle.model.specs.Events.{event, IsEvent}
 use Rattle.model.specs.Limits.{maxEvents, maxThresholds}
 use Rattle.model.specs.Network.{Network}
 use Rattle.prepare.specs.EndTable.{EndTable}
-use Rattle.range_query.specs.Metres.{Ways, metres}
-use Rattle.range_query.specs.Tally.{Steps, Bucket, sumBetween}
+use Rattle.range_query.specs.Metres.{Ways, metres, leastWay}
+use Rattle.range_query.specs.Tally.{Steps, Bucket, nextBucket, sumBetween}
 use Rattle.range_query.specs.declared.metres.EdgePair.{EdgePair}
 
 -- the pairs of a place from a up to before b with an earlier one from c up to before d, within t by a measure of two places
@@ -25,9 +26,19 @@ pairsFrom measure c a b t = sumBetween a b (λ i. sumBetween c i (λ j. one-if (
 unfoldable pub blockMetres : EdgePair → List ℕ → ℕ → ℕ → ℕ
 blockMetres g offsets i j = metres g (getD offsets i 0) (getD offsets j 0)
 
+-- if b is a bucket, the edges are two and the least way between them falls in it
+pub record Nearest (g : EdgePair) (steps : List ℕ) (b : ℕ) : Type 0 where
+  pub two : b ≤ maxThresholds → g .same ≡ false
+  pub falls : b ≤ maxThresholds → Bucket steps (min (leastWay g) 4294967296) b
+
 -- every two places of the two edges fall in bucket b, if b is a bucket
 pub record OneBucket (g : EdgePair) (steps : List ℕ) (b : ℕ) : Type 0 where
   pub falls : b ≤ maxThresholds → (x y : ℕ) → x ≤ g .size → y ≤ g .other → Bucket steps (metres g x y) b
+
+-- if b is a step, it parts the places of the two edges: what it admits falls in its bucket, all else in the next one
+pub record TwoBuckets (g : EdgePair) (steps : List ℕ) (b : ℕ) : Type 0 where
+  pub within : b < maxThresholds → (x y : ℕ) → x ≤ g .size → y ≤ g .other → metres g x y ≤ getD steps b 0 → Bucket steps (metres g x y) b
+  pub beyond : b < maxThresholds → (x y : ℕ) → x ≤ g .size → y ≤ g .other → getD steps b 0 < metres g x y → Bucket steps (metres g x y) (nextBucket steps b)
 
 -- two runs: places from a up to before b, and those of the other edge from c up to before d, which begin no later
 pub record Block (g : EdgePair) (offsets : List ℕ) (a b c d : ℕ) : Type 0 where

@@ -1,9 +1,10 @@
 -- A tally of pairs by the first threshold that admits them. The thresholds are spread over as many steps as there may be thresholds;
 -- the last bucket is for what no step admits.
+use mathlib.Core.Bool.{cond}
 use mathlib.Core.List.{List}
 use mathlib.Core.Path.{_≡_}
 use Prim.Native.Nat.{ℕ, suc, _+_, _-_, _*_, _/_, _^_, _≤_, _<_, min}
-use lib.Dec.{leb}
+use lib.Dec.{leb, ltb}
 use lib.ListN.{length, getD}
 use Rattle.model.specs.Counting.{sumBelow}
 use Rattle.model.specs.Limits.{maxThresholds}
@@ -105,6 +106,17 @@ pub record Between (steps : List ℕ) (least most r : ℕ) : Type 0 where
 pub record RowBucket (p q other place : ℕ) (steps : List ℕ) (r : ℕ) : Type 0 where
   pub falls : r ≤ maxThresholds → (y : ℕ) → y ≤ other → Bucket steps (meet p q other place y) r
 
+-- the bucket of what lies right beyond step b: the last one if the step is that of the greatest threshold
+unfoldable pub nextBucket : List ℕ → ℕ → ℕ
+nextBucket steps b = cond (ltb (getD steps b 0) (getD steps lastStep 0)) (suc b) maxThresholds
+
+-- step b parts an event and the places of another edge: what it admits falls in bucket b, all else in bucket c
+pub record RowParted (p q other place : ℕ) (steps : List ℕ) (b c : ℕ) : Type 0 where
+  pub step : b < maxThresholds
+  pub next : c ≤ maxThresholds
+  pub within : (y : ℕ) → y ≤ other → meet p q other place y ≤ getD steps b 0 → Bucket steps (meet p q other place y) b
+  pub beyond : (y : ℕ) → y ≤ other → getD steps b 0 < meet p q other place y → Bucket steps (meet p q other place y) c
+
 -- the sum of the first buckets, up to number k
 unfoldable pub upTo : List ℕ → ℕ → ℕ
 upTo buckets k = sumBelow (suc k) (λ b. getD buckets b 0)
@@ -119,6 +131,13 @@ pub record Added (steps old new : List ℕ) (most : ℕ) (count : ℕ → ℕ) :
 pub record Room (buckets : List ℕ) (n : ℕ) : Type 0 where
   pub long : length buckets ≡ suc maxThresholds
   pub room : upTo buckets maxThresholds + n < 4294967296
+
+-- one event and a list of offsets of another edge, which lie on it
+pub record RowOn (p q other : ℕ) (ys : List ℕ) : Type 0 where
+  pub p-to : p ≤ 2199023255552
+  pub q-to : q ≤ 2199023255552
+  pub other-to : other ≤ 4294967296
+  pub on-other : (j : ℕ) → j < length ys → getD ys j 0 ≤ other
 
 -- one event against a list of offsets of another edge, which lie on it
 pub record RowFits (p q other : ℕ) (ys steps buckets : List ℕ) : Type 0 where

@@ -13,8 +13,12 @@ use crate::metres::place_on;
 use crate::metres::to_first;
 use crate::metres::to_second;
 use crate::metres::wide;
+use crate::split::split_block;
+use crate::split::two_buckets;
 use crate::tally::BUCKETS;
 use crate::tally::LADDER;
+use crate::tally::STEPS;
+use crate::whole::nearest_bucket;
 use crate::whole::one_bucket;
 use crate::whole::tally_row;
 use prepare::way;
@@ -96,7 +100,7 @@ fn block(
     }
 }
 
-// The same, all at once if the runs are two and their pairs fall in one bucket.
+// The same, all at once if the runs are two and their pairs fall in one bucket, and by one comparison each if one threshold parts them.
 pub(crate) fn tally_runs(
     g: EdgePair,
     offsets: &[u32],
@@ -111,10 +115,26 @@ pub(crate) fn tally_runs(
     ensures { λ _. ⌜ Added (now (steps .entry)) (now (buckets .entry)) (now (buckets .exit)) ((to - from) * («other_to» - «other_from»)) (pairsWithin (blockMetres g (now (offsets .entry))) from to «other_from» «other_to») ⌝ }
 {
     if other_to <= from {
-        let found = one_bucket(g, steps);
+        let nearest = nearest_bucket(g, steps);
+        let found = one_bucket(g, nearest, steps);
         if found < BUCKETS {
             let pairs = (to - from) * (other_to - other_from);
             buckets[found] += pairs as u32;
+            return;
+        }
+        let parted = two_buckets(g, nearest, steps);
+        if parted < STEPS {
+            split_block(
+                g,
+                parted,
+                offsets,
+                from,
+                to,
+                other_from,
+                other_to,
+                steps,
+                buckets,
+            );
             return;
         }
     }

@@ -5,6 +5,7 @@ mod ladder;
 mod metres;
 mod runs;
 mod sets;
+mod split;
 mod tally;
 mod whole;
 

@@ -5,13 +5,17 @@ ghost use lib.Dec.{leb};
 ghost use lib.ListN.{length, getD};
 ghost use Rattle.model.specs.Counting.{countBelow};
 ghost use Rattle.range_query.specs.Metres.{Ways, meet, leastWay, fourRoutes};
-ghost use Rattle.range_query.specs.Runs.{OneBucket};
+ghost use Rattle.range_query.specs.Runs.{Nearest, OneBucket};
 ghost use Rattle.range_query.specs.Tally.{Steps, Added, RowBucket, RowFits};
 use crate::metres::BEYOND;
 use crate::metres::EdgePair;
+use crate::metres::wide;
 use crate::tally::BUCKETS;
 use crate::tally::LADDER;
+use crate::tally::LAST_STEP;
+use crate::tally::STEPS;
 use crate::tally::bucket_between;
+use crate::tally::bucket_of;
 use crate::tally::row;
 use model::lesser;
 use prepare::FAR;
@@ -64,21 +68,39 @@ fn least_way(g: EdgePair) -> u64
 }
 
 // The four routes between two places added up, which is the same for all places: the least is at most a quarter of it.
-fn four_routes(g: EdgePair) -> u64
+pub(crate) fn four_routes(g: EdgePair) -> u64
     requires { ⌜ Ways g ⌝ }
     ensures { λ r. ⌜ r ≡ fourRoutes g ⌝ }
 {
     g.firsts + g.onward + g.back + g.seconds + 2 * (g.size + g.other)
 }
 
-// The bucket that every two places of two edges fall in; BUCKETS where they may fall in several, or the edges are one.
-pub(crate) fn one_bucket(g: EdgePair, steps: &[u32; LADDER]) -> usize
+// The bucket that the least way between two edges falls in; BUCKETS where the edges are one.
+pub(crate) fn nearest_bucket(g: EdgePair, steps: &[u32; LADDER]) -> usize
     requires { ⌜ Ways g × Steps (now steps) ⌝ }
-    ensures { λ r. ⌜ OneBucket g (now (steps .entry)) r ⌝ }
+    ensures { λ r. ⌜ Nearest g (now (steps .entry)) r ⌝ }
 {
     if g.same {
         return BUCKETS;
     }
     let least = lesser(least_way(g), BEYOND);
-    bucket_between(steps, least, four_routes(g) / 4)
+    if wide(steps[LAST_STEP]) < least {
+        return STEPS;
+    }
+    bucket_of(steps, least)
+}
+
+// The bucket that every two places of two edges fall in, by that of the least way; BUCKETS where they may fall in several, or the edges
+// are one.
+pub(crate) fn one_bucket(g: EdgePair, nearest: usize, steps: &[u32; LADDER]) -> usize
+    requires { ⌜ Ways g × Steps (now steps) × Nearest g (now steps) nearest ⌝ }
+    ensures { λ r. ⌜ OneBucket g (now (steps .entry)) r ⌝ }
+{
+    if STEPS <= nearest {
+        return nearest;
+    }
+    if four_routes(g) / 4 <= wide(steps[nearest]) {
+        return nearest;
+    }
+    BUCKETS
 }

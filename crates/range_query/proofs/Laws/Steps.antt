@@ -5,7 +5,7 @@ use mathlib.Core.Path.{_≡_, sym, _∙_}
 use Prim.Native.Nat.{ℕ, suc, _+_, _-_, _≤_, _<_}
 use native.Mathlib.Decide.{decLt}
 use native.Mathlib.Omega.{arith}
-use borrow.Author.Tests.{le-leb, lt-leb, lt-ltb, le-ltb, leb-true, leb-false}
+use borrow.Author.Tests.{le-leb, lt-leb, lt-ltb, le-ltb, leb-false}
 use lib.Dec.{leb, ltb}
 use lib.ListN.{getD}
 use Rattle.range_query.specs.Tally.{Steps, Bracket, Bucket, Celled}
@@ -50,12 +50,6 @@ bracket-found steps d pos w = record { fits = omega (arith, w .fits); admits = �
 -- the steps before the one found do not admit d
 pub bucket-passed : {steps : List ℕ} {d b : ℕ} → Bucket steps d b → (k : ℕ) → k < b → k < 64 → getD steps k 0 < d
 bucket-passed {steps} {d} {b} w k h l = leb-false d (getD steps k 0) (sym (w .admits k l) ∙ lt-leb b k h)
-
--- a step is found for what is within the greatest
-pub bucket-within : {steps : List ℕ} {d b : ℕ} → Bucket steps d b → d ≤ getD steps 63 0 → b < 64
-bucket-within {steps} {d} {b} w h =
-    let to : b ≤ 63 = leb-true b 63 (w .admits 63 (omega arith) ∙ le-leb d (getD steps 63 0) h) in
-    omega arith
 
 -- no step admits what is beyond the greatest
 pub bucket-beyond : (steps : List ℕ) (d : ℕ) → Steps steps → getD steps 63 0 < d → Bucket steps d 64

@@ -57,13 +57,18 @@ raised buckets b m (suc n) h = go (ℕ-discrete n b) (raised buckets b m n h)
         past (no l) = le-ltb b (suc n) (omega arith) ∙ sym (le-ltb b n (omega arith))
 
 -- m more in one bucket
-up-to-raised : (buckets : List ℕ) (b m k : ℕ) → b < length buckets → upTo (set buckets b (getD buckets b 0 + m)) k ≡ upTo buckets k + m * one-if (leb b k)
+pub up-to-raised : (buckets : List ℕ) (b m k : ℕ) → b < length buckets → upTo (set buckets b (getD buckets b 0 + m)) k ≡ upTo buckets k + m * one-if (leb b k)
 unfolding upTo
 up-to-raised buckets b m k h = raised buckets b m (suc k) h ∙ ap (λ x. upTo buckets k + m * one-if x) (reached (decLt k b))
   where
     reached : Dec (k < b) → ltb b (suc k) ≡ leb b k
     reached (yes l) = le-ltb b (suc k) (omega arith) ∙ sym (lt-leb b k l)
     reached (no l) = lt-ltb b (suc k) (omega arith) ∙ sym (le-leb b k (omega arith))
+
+-- m more in all at most
+pub raised-most : (buckets : List ℕ) (b m : ℕ) → b < length buckets → upTo (set buckets b (getD buckets b 0 + m)) 64 ≤ upTo buckets 64 + m
+raised-most buckets b m h =
+    omega (arith, up-to-raised buckets b m 64 h, mul-le-mul-left m (one-if-one (leb b 64)), mul-one m)
 
 -- nothing added
 pub added-none : (steps buckets : List ℕ) → Added steps buckets buckets 0 (λ t. 0)
@@ -84,7 +89,7 @@ pub added-many : (steps buckets : List ℕ) (b m : ℕ) (count : ℕ → ℕ) �
 added-many steps buckets b m count long fits same =
     record {
       tallied = λ k h. up-to-raised buckets b m k (omega arith) ∙ ap (λ x. upTo buckets k + x) (sym (same k h));
-      total = omega (arith, up-to-raised buckets b m 64 (omega arith), mul-le-mul-left m (one-if-one (leb b 64)), mul-one m);
+      total = raised-most buckets b m (omega arith);
       long = length-set buckets b (getD buckets b 0 + m);
     }
 

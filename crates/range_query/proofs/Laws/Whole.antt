@@ -11,7 +11,7 @@ use Rattle.model.specs.Counting.{one-if, countBelow}
 use Rattle.model.specs.Distance.{difference}
 use Rattle.prepare.specs.Ways.{far}
 use Rattle.range_query.specs.Metres.{Ways, metres, meet, toFirst, toSecond, placeOn, leastWay, fourRoutes}
-use Rattle.range_query.specs.Runs.{Block, OneBucket, blockMetres, pairsWithin}
+use Rattle.range_query.specs.Runs.{Block, Nearest, OneBucket, blockMetres, pairsWithin}
 use Rattle.range_query.specs.Tally.{Steps, Bracket, Bucket, Between, RowBucket, RowFits, Added, Room}
 use Rattle.range_query.specs.declared.metres.EdgePair.{EdgePair}
 use Rattle.range_query.proofs.Laws.Between.{all-same}
@@ -33,16 +33,16 @@ module _ {steps : List ℕ} (up : Steps steps) (least most : ℕ) where
   pub between-beyond : getD steps 63 0 < least → Between steps least most 64
   between-beyond h = record { falls = λ fits d from to. bucket-beyond steps d up (omega arith) }
 
-  -- all between two steps
-  pub between-steps : (b : ℕ) → b < 64 → Bucket steps least b → most ≤ getD steps b 0 → Between steps least most b
-  between-steps b fits first last = record { falls = λ h d from to. bracket-found steps d b (bracket d from to) }
+  -- all between two steps, or beyond the last one
+  pub between-steps : (b : ℕ) → Bucket steps least b → (b < 64 → most ≤ getD steps b 0) → Between steps least most b
+  between-steps b first last = record { falls = λ h d from to. bracket-found steps d b (bracket h d from to) }
     where
-      bracket : (d : ℕ) → least ≤ d → d ≤ most → Bracket steps d b 0
-      bracket d from to =
+      bracket : b ≤ 64 → (d : ℕ) → least ≤ d → d ≤ most → Bracket steps d b 0
+      bracket h d from to =
           record {
             fits = omega arith;
-            passed = λ k h. omega (arith, bucket-passed first k h (omega arith));
-            ahead = λ k h l. omega (arith, up .level b k (omega arith) l);
+            passed = λ k l. omega (arith, bucket-passed first k l (omega arith));
+            ahead = λ k l m. omega (arith, last (omega arith), up .level b k (omega arith) m);
           }
 
 -- no bucket named
@@ -84,7 +84,7 @@ module _ {g : EdgePair} (w : Ways g) (two : g .same ≡ false) (x y : ℕ) (on :
   stretch-far = let z : placeOn g x ≡ far = simp two in omega (arith, w .other-to)
 
   -- no place of the other edge is nearer than the least way
-  nearest : min (leastWay g) 4294967296 ≤ metres g x y
+  pub nearest : min (leastWay g) 4294967296 ≤ metres g x y
   unfolding metres meet
   nearest = below-three (omega (arith, by-first)) (omega (arith, by-second)) (omega (arith, stretch-far))
     where
@@ -95,16 +95,25 @@ module _ {g : EdgePair} (w : Ways g) (two : g .same ≡ false) (x y : ℕ) (on :
       by-second = unfold leastWay toSecond in omega arith
 
   -- none is farther than a quarter of the four routes
-  farthest : metres g x y ≤ fourRoutes g / 4
+  pub farthest : metres g x y ≤ fourRoutes g / 4
   farthest = part-of 4 (metres g x y) (fourRoutes g) (omega arith) all
     where
       all : metres g x y * 4 ≤ fourRoutes g
       all = unfold metres meet toFirst toSecond fourRoutes in omega arith
 
--- the places of two edges
-pub one-within : {g : EdgePair} {steps : List ℕ} {way least routes most : ℕ} (r : ℕ) → Ways g → g .same ≡ false → way ≡ leastWay g → least ≡ min way 4294967296 → routes ≡ fourRoutes g → most ≡ routes / 4 → Between steps least most r → OneBucket g steps r
-one-within r ways two d e f h w =
-    record { falls = λ fits x y on on-other. w .falls fits _ (rw (e, d) (nearest ways two x y on on-other)) (rw (h, f) (farthest ways two x y on on-other)) }
+-- the bucket of the least way
+pub nearest-unnamed : (g : EdgePair) (steps : List ℕ) → Nearest g steps 65
+nearest-unnamed g steps = record { two = λ h. absurd (omega arith); falls = λ h. absurd (omega arith) }
+
+pub nearest-found : {g : EdgePair} {steps : List ℕ} {way least : ℕ} (r : ℕ) → g .same ≡ false → way ≡ leastWay g → least ≡ min way 4294967296 → Bucket steps least r → Nearest g steps r
+nearest-found r two d e w = record { two = λ h. two; falls = λ h. rw (e, d) at w }
+
+-- the places of two edges, by that bucket
+pub one-within : {g : EdgePair} {steps : List ℕ} (r : ℕ) → Ways g → Steps steps → Nearest g steps r → (r < 64 → fourRoutes g / 4 ≤ getD steps r 0) → OneBucket g steps r
+one-within {g} r ways up near last =
+    record {
+      falls = λ fits x y on on-other. between-steps up (min (leastWay g) 4294967296) (fourRoutes g / 4) r (near .falls fits) last .falls fits (metres g x y) (nearest ways (near .two fits) x y on on-other) (farthest ways (near .two fits) x y on on-other);
+    }
 
 -- the pairs of an event, tallied at once
 pub row-at-once : {p q other place : ℕ} {ys steps : List ℕ} (buckets : List ℕ) (found : ℕ) → RowFits p q other ys steps buckets → RowBucket p q other place steps found → found ≤ 64 → Added steps buckets (set buckets found (getD buckets found 0 + length ys)) (length ys) (λ t. countBelow (length ys) (λ j. leb (meet p q other place (getD ys j 0)) t))

@@ -1,5 +1,4 @@
 -- Beyond the greatest threshold, or between two steps, or no one bucket is named.
-use Rattle.range_query.proofs.Laws.Steps.{bucket-within}
 use Rattle.range_query.proofs.Laws.Whole.{between-beyond, between-steps, between-unnamed}
 use native.Mathlib.Omega.{arith}
 use borrow.Author.Needs.{needs}
@@ -28,7 +27,7 @@ wide-requires-2 : tie.Need-wide-requires-2
 wide-requires-2 c κs = search needs
 
 returns-2 : tie.Need-returns-2
-returns-2 c = between-steps (c .before .before .before .before .before .before .before .pre) _ _ _ (bucket-within (c .before .before .before .bucket-of .ensures) (omega (arith, c .before .before .before .before .if1 .left, c .before .before .before .before .before .wide .ensures))) (c .before .before .before .bucket-of .ensures) (rw (← c .before .wide2 .ensures) (c .if2 .taken))
+returns-2 c = between-steps (c .before .before .before .before .before .before .before .pre) _ _ _ (c .before .before .before .bucket-of .ensures) (λ h. rw (← c .before .wide2 .ensures) (c .if2 .taken))
 
 returns-3 : tie.Need-returns-3
 returns-3 c = between-unnamed _ _ _
