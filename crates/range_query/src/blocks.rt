@@ -117,12 +117,12 @@ pub(crate) fn tally_runs(
     if other_to <= from {
         let nearest = nearest_bucket(g, steps);
         let found = one_bucket(g, nearest, steps);
+        let pairs = (to - from) * (other_to - other_from);
         if found < BUCKETS {
-            let pairs = (to - from) * (other_to - other_from);
             buckets[found] += pairs as u32;
             return;
         }
-        let parted = two_buckets(g, nearest, steps);
+        let parted = two_buckets(g, nearest, pairs, steps);
         if parted < STEPS {
             split_block(
                 g,

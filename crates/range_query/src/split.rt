@@ -20,6 +20,9 @@ use crate::tally::LAST_STEP;
 use crate::tally::STEPS;
 use crate::whole::four_routes;
 
+// Fewer pairs are not worth the test.
+const MANY: usize = 16;
+
 // The bucket of what lies right beyond a step. The greatest threshold is repeated up to the last step, so beyond it comes the last bucket.
 fn next_bucket(steps: &[u32; LADDER], step: usize) -> usize
     requires { ⌜ step < maxThresholds ⌝ }
@@ -33,11 +36,14 @@ fn next_bucket(steps: &[u32; LADDER], step: usize) -> usize
 }
 
 // The step that parts the places of two edges, all of which fall in its bucket or in the next one, by the bucket of the least way; STEPS
-// where they may fall in others, or the edges are one.
-pub(crate) fn two_buckets(g: EdgePair, nearest: usize, steps: &[u32; LADDER]) -> usize
+// where they may fall in others, the pairs are few, or the edges are one.
+pub(crate) fn two_buckets(g: EdgePair, nearest: usize, pairs: usize, steps: &[u32; LADDER]) -> usize
     requires { ⌜ Ways g × Steps (now steps) × Nearest g (now steps) nearest ⌝ }
     ensures { λ r. ⌜ TwoBuckets g (now (steps .entry)) r ⌝ }
 {
+    if pairs < MANY {
+        return STEPS;
+    }
     if STEPS <= nearest {
         return STEPS;
     }
