@@ -1,26 +1,14 @@
 // Prints the report over network.gr, reports.csv and thresholds.csv of the current folder.
+mod files;
+
 ghost use Prim.Native.Nat.{_≤_};
 ghost use lib.ListN.{length};
 ghost use Rattle.report.specs.Report.{reportRoom};
-ghost use Rattle.kcount.specs.Held.{Held};
-use libc::STDOUT_FILENO;
+ghost use Rattle.kcount.specs.Held.{Held, HeldOfFronts};
 use printing::Printed;
 
 // One byte more than a text may have, so that a longer one is refused and not cut off.
 const TEXT: usize = reading::MAX_BYTES + 1;
-
-// Fills the list from a file, and answers how many bytes were read. A file that cannot be opened counts as empty.
-fn read(path: &[u8], text: &mut [u8]) -> usize
-    ensures { λ r. ⌜ r ≤ length (now (text .exit)) ⌝ }
-{
-    let fd = os::open_read(path);
-    if fd < 0 {
-        return 0;
-    }
-    let n = io::read_full(fd, text);
-    libc::close(fd);
-    n
-}
 
 // The bytes of the report, in front of the list; answers how many they are.
 fn fill(network: &[u8], reports: &[u8], thresholds: &[u8], out: &mut [u8]) -> usize
@@ -34,14 +22,15 @@ fn fill(network: &[u8], reports: &[u8], thresholds: &[u8], out: &mut [u8]) -> us
     }
 }
 
-fn run(network: &mut [u8], reports: &mut [u8], thresholds: &mut [u8], out: &mut [u8])
+// Reads the three files, each into its list, and fills the last list with the report over what was read.
+fn run(network: &mut [u8], reports: &mut [u8], thresholds: &mut [u8], out: &mut [u8]) -> usize
     requires { ⌜ reportRoom ≤ length (now out) ⌝ }
+    ensures { λ r. ⌜ HeldOfFronts (now (network .exit)) (now (reports .exit)) (now (thresholds .exit)) r (now (out .exit)) ⌝ }
 {
-    let a = read(b"network.gr", network);
-    let b = read(b"reports.csv", reports);
-    let c = read(b"thresholds.csv", thresholds);
-    let count = fill(&network[..a], &reports[..b], &thresholds[..c], out);
-    io::write_all(STDOUT_FILENO, &out[..count]);
+    let a = files::read(b"network.gr", network);
+    let b = files::read(b"reports.csv", reports);
+    let c = files::read(b"thresholds.csv", thresholds);
+    fill(&network[..a], &reports[..b], &thresholds[..c], out)
 }
 
 fn main() {
@@ -49,5 +38,6 @@ fn main() {
     let mut reports = [0u8; TEXT];
     let mut thresholds = [0u8; TEXT];
     let mut out = [0u8; report::REPORT_ROOM];
-    run(&mut network, &mut reports, &mut thresholds, &mut out);
+    let count = run(&mut network, &mut reports, &mut thresholds, &mut out);
+    files::print(&out[..count]);
 }

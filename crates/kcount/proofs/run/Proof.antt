@@ -1,7 +1,9 @@
--- What was read of each text, and what was filled in, are fronts of the lists.
+-- What was read of each text is a front of its list, and the report is over these.
 use mathlib.Core.Path.{sym}
+use native.Mathlib.Omega.{arith}
 use lib.Seq.{length-take-le}
 use borrow.Author.Needs.{needs}
+use Rattle.kcount.proofs.Laws.Held.{of-fronts}
 use Rattle.kcount.proofs.run.Statement.{statement}
 use Rattle.kcount.proofs.run.Tie as tie
 
@@ -27,31 +29,22 @@ slice-reshare-prefix-fill : tie.Need-slice-reshare-prefix-fill
 slice-reshare-prefix-fill c = search needs
 
 slice-aggregate-fill : tie.Need-slice-aggregate-fill
-slice-aggregate-fill c = sym (length-take-le _ _ (c .before .before .before .before .before .before .before .before .before .before .before .before .before .read .ensures))
+slice-aggregate-fill c = sym (length-take-le _ _ (omega arith))
 
 slice-reshare-prefix-fill-2 : tie.Need-slice-reshare-prefix-fill-2
 slice-reshare-prefix-fill-2 c = search needs
 
 slice-aggregate-fill-2 : tie.Need-slice-aggregate-fill-2
-slice-aggregate-fill-2 c = sym (length-take-le _ _ (c .before .before .before .before .before .before .before .before .before .read2 .ensures))
+slice-aggregate-fill-2 c = sym (length-take-le _ _ (omega arith))
 
 slice-reshare-prefix-fill-3 : tie.Need-slice-reshare-prefix-fill-3
 slice-reshare-prefix-fill-3 c = search needs
 
 slice-aggregate-fill-3 : tie.Need-slice-aggregate-fill-3
-slice-aggregate-fill-3 c = sym (length-take-le _ _ (c .before .before .before .before .before .read3 .ensures))
+slice-aggregate-fill-3 c = sym (length-take-le _ _ (omega arith))
 
 fill-requires : tie.Need-fill-requires
 fill-requires c κs = search needs
-
-slice-reshare-prefix-write-all : tie.Need-slice-reshare-prefix-write-all
-slice-reshare-prefix-write-all c = search needs
-
-slice-aggregate-write-all : tie.Need-slice-aggregate-write-all
-slice-aggregate-write-all c = sym (length-take-le _ _ (c .before .before .before .fill .ensures .within))
-
-write-all-requires : tie.Need-write-all-requires
-write-all-requires c κs = search needs
 
 same-length : tie.Need-same-length
 same-length c = search needs
@@ -66,7 +59,12 @@ same-length-4 : tie.Need-same-length-4
 same-length-4 c = search needs
 
 returns : tie.Need-returns
-returns c = search needs
+returns c =
+    of-fronts
+    (c .before .before .before .before .before .before .before .before .before .before .before .before .before .before .before .before .before .before .before .read .ensures)
+    (c .before .before .before .before .before .before .before .before .before .before .before .before .before .before .read2 .ensures)
+    (c .before .before .before .before .before .before .before .before .before .read3 .ensures)
+    (c .before .before .fill .ensures)
 
 pub run-spec : {M : Type 1} → statement M
 run-spec =
@@ -85,9 +83,6 @@ run-spec =
     slice-reshare-prefix-fill-3
     slice-aggregate-fill-3
     fill-requires
-    slice-reshare-prefix-write-all
-    slice-aggregate-write-all
-    write-all-requires
     same-length
     same-length-2
     same-length-3
