@@ -1,62 +1,23 @@
 //! The proved program beside the plain one: the same folders, the same bytes.
 //!
 //! KC_PROGRAM is the path of the proved program; without it these tests say so
-//! and do nothing. KC_FOLDERS is the number of random folders (400 if it is
-//! not set; 20000 takes a minute or two, and from 5000 on every refusal is met).
+//! and do nothing, and fail where CI is set. KC_FOLDERS is the number of random
+//! folders (400 if it is not set; 20000 takes a minute or two, and from 5000 on
+//! every refusal is met).
 
 mod common;
 
 use std::collections::BTreeSet;
-use std::ffi::OsString;
 use std::fs;
-use std::path::{Path, PathBuf};
+use std::path::Path;
 use std::process::Command;
 
+use common::program::*;
 use common::*;
 use reference::lists::{MAX_LENGTH, MAX_REPORTS};
 use reference::random::{self, Rng, Shape, Spread, Spread::Even, Spread::Far, Spread::Short};
 use reference::table::FILES;
 use reference::text::MAX_TEXT;
-
-fn program() -> Option<OsString> {
-    let Some(path) = std::env::var_os("KC_PROGRAM").filter(|path| !path.is_empty()) else {
-        println!("KC_PROGRAM is not set: the proved program is not compared");
-        return None;
-    };
-    // It is run in other folders.
-    let path = fs::canonicalize(&path).unwrap_or_else(|error| panic!("KC_PROGRAM {path:?}: {error}"));
-    Some(path.into_os_string())
-}
-
-/// One file of a folder.
-#[derive(Clone, Debug)]
-enum File {
-    Text(Vec<u8>),
-    Missing,
-    /// A folder of that name: it opens, but cannot be read.
-    Folder,
-}
-
-use File::{Folder, Missing, Text};
-
-fn text(bytes: impl AsRef<[u8]>) -> File {
-    Text(bytes.as_ref().to_vec())
-}
-
-/// Puts the files in place of those of the last turn.
-fn lay(folder: &Path, files: &[File; 3]) {
-    fs::create_dir_all(folder).expect("a folder");
-    for (name, file) in FILES.iter().zip(files) {
-        let path = folder.join(name);
-        let _ = fs::remove_file(&path);
-        let _ = fs::remove_dir(&path);
-        match file {
-            Text(bytes) => fs::write(&path, bytes).expect("a file"),
-            Missing => {}
-            Folder => fs::create_dir(&path).expect("a folder"),
-        }
-    }
-}
 
 /// What a program prints in the folder, and nothing else.
 fn printed(program: impl AsRef<std::ffi::OsStr>, folder: &Path) -> Vec<u8> {
@@ -66,12 +27,8 @@ fn printed(program: impl AsRef<std::ffi::OsStr>, folder: &Path) -> Vec<u8> {
     out.stdout
 }
 
-fn folder(name: &str) -> PathBuf {
-    Path::new(env!("CARGO_TARGET_TMPDIR")).join(name)
-}
-
 /// Both programs in one folder.
-fn compare(proved: &OsString, folder: &Path, files: &[File; 3]) -> String {
+fn compare(proved: &Path, folder: &Path, files: &[File; 3]) -> String {
     lay(folder, files);
     let told = printed(proved, folder);
     let expected = printed(env!("CARGO_BIN_EXE_kcount_reference"), folder);

@@ -1,7 +1,8 @@
 //! The example programs in C and Rust, compiled as their first lines say,
-//! linked with the proved library and run.
+//! linked with the proved library and run. Without KC_LIB these tests say so and
+//! do nothing, and fail where CI is set.
 
-#![cfg(proved)]
+mod common;
 
 use std::collections::BTreeSet;
 use std::path::{Path, PathBuf};
@@ -13,8 +14,8 @@ fn root() -> PathBuf {
 }
 
 /// The folder of the proved library.
-fn library() -> PathBuf {
-    PathBuf::from(std::env::var_os("KC_LIB").expect("KC_LIB is set"))
+fn library() -> Option<PathBuf> {
+    common::handed_over("KC_LIB")
 }
 
 /// Compiles to a program of this name and gives what it prints.
@@ -34,16 +35,18 @@ fn expected() -> String {
 
 #[test]
 fn in_c() {
+    let Some(library) = library() else { return };
     let mut gcc = Command::new("gcc");
     gcc.args(["-std=c99", "-Wall", "-Wextra", "-pedantic", "-Werror", "-Iinclude", "examples/c/table.c"]);
-    gcc.arg(library().join("libexports.a"));
+    gcc.arg(library.join("libexports.a"));
     assert_eq!(printed("table_c", gcc), expected());
 }
 
 #[test]
 fn in_rust() {
+    let Some(library) = library() else { return };
     let mut rustc = Command::new(std::env::var_os("RUSTC").unwrap_or_else(|| "rustc".into()));
-    rustc.args(["-O", "-l", "static=exports", "examples/rust/table.rs", "-L"]).arg(library());
+    rustc.args(["-O", "-l", "static=exports", "examples/rust/table.rs", "-L"]).arg(library);
     assert_eq!(printed("table_rust", rustc), expected());
 }
 
@@ -58,8 +61,9 @@ fn names(text: &str, before: &str) -> BTreeSet<String> {
 
 #[test]
 fn the_header_names_every_function() {
+    let Some(library) = library() else { return };
     let header = std::fs::read_to_string(root().join("include/zanwethol.h")).expect("the header");
-    let out = Command::new("nm").args(["-g", "--defined-only"]).arg(library().join("libexports.a")).output().expect("nm");
+    let out = Command::new("nm").args(["-g", "--defined-only"]).arg(library.join("libexports.a")).output().expect("nm");
     assert!(out.status.success());
     let in_library = names(&String::from_utf8_lossy(&out.stdout), "");
     assert!(in_library.contains("kc_lay_out"));

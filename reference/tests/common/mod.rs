@@ -1,12 +1,30 @@
-//! Shared by the tests: the full run's network, and a metre-by-metre oracle.
+//! Shared by the tests: what is handed over to them, the full run's network, and
+//! a metre-by-metre oracle.
 
 #![allow(dead_code)]
 
+pub mod program;
+
 use std::collections::{BTreeMap, VecDeque};
+use std::path::PathBuf;
 
 use reference::distance::{place, Location, Place};
 use reference::model::{Network, Sets, Thresholds};
 use reference::random::{NetworkInput, ReportInput};
+
+/// The absolute path that a variable of the environment names: KC_LIB, the folder
+/// of the proved library, or KC_PROGRAM, the proved program. Without it a test
+/// has nothing to compare with: it says so and does nothing, and fails where the
+/// variable CI is set.
+pub fn handed_over(variable: &str) -> Option<PathBuf> {
+    let Some(path) = std::env::var_os(variable).filter(|path| !path.is_empty()) else {
+        assert!(std::env::var_os("CI").is_none(), "CI is set and {variable} is not: nothing is compared");
+        println!("{variable} is not set: nothing is compared");
+        return None;
+    };
+    // Programs are run in other folders.
+    Some(std::fs::canonicalize(&path).unwrap_or_else(|error| panic!("{variable} {path:?}: {error}")))
+}
 
 pub fn made(input: &NetworkInput) -> Network {
     Network::new(input.nodes, &input.firsts, &input.seconds, &input.lengths).expect("a good network")
