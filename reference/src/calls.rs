@@ -2,7 +2,7 @@
 //! first, then the answer lists, which keep their contents on a refusal and
 //! their surplus otherwise.
 
-use crate::counts::{augment as stored, by, sweep, Mark, Method};
+use crate::counts::{augment as stored, sweep, Counts, Mark, Method};
 use crate::distance::NodeTable;
 use crate::lists::{Faults, Refusal};
 use crate::model::{LaidOut, Network, Sets, Thresholds};
@@ -25,8 +25,10 @@ pub fn counts_wanted(sets: &[u32], thresholds: &[u32]) -> usize {
     (sets.iter().copied().max().unwrap_or(0) as usize + 1) * thresholds.len()
 }
 
-/// Pair counts set by set, and under each set threshold by threshold.
+/// Pair counts set by set, and under each set threshold by threshold. `by` is
+/// that of `counts`, or for timing that of `tuned`.
 pub fn counts(
+    by: fn(Method, &Network, &Sets, &Thresholds) -> Counts,
     method: Method,
     net: &NetworkInput,
     reports: &ReportInput,

@@ -23,7 +23,7 @@ pub type Counts = Vec<Vec<u64>>;
 /// A gap plus a node distance that is not there: more than any threshold.
 const FAR: i64 = 1 << 40;
 
-fn walk(distance: Option<u32>) -> i64 {
+pub(crate) fn walk(distance: Option<u32>) -> i64 {
     distance.map_or(FAR, i64::from)
 }
 
@@ -54,13 +54,13 @@ pub fn naive(network: &Network, table: &NodeTable, sets: &Sets, thresholds: &Thr
     Ok(answer)
 }
 
-fn length_of(network: &Network, leg: u32) -> i64 {
+pub(crate) fn length_of(network: &Network, leg: u32) -> i64 {
     network.leg(leg).map_or(0, |(_, _, length)| i64::from(length))
 }
 
 /// Of `all` reports in a row, how many are among the first `by_u`, the last
 /// `by_v`, or between `below` and `not_above`.
-fn joined(all: u32, by_u: u32, by_v: u32, below: u32, not_above: u32) -> u32 {
+pub(crate) fn joined(all: u32, by_u: u32, by_v: u32, below: u32, not_above: u32) -> u32 {
     let tail = all - by_v.min(all);
     let missed_before = tail.min(below).saturating_sub(by_u);
     let missed_after = tail.saturating_sub(not_above.max(by_u));
@@ -92,47 +92,25 @@ impl Method {
     }
 }
 
-// Rough times in tenths of a nanosecond, from `plain_bench`: looking at a pair
-// of legs; a pair of reports, and each halving of the thresholds for it; each
-// halving of a leg's reports; a report in a sweep.
-const LEG_PAIR: u64 = 100;
-const REPORT_PAIR: u64 = 25;
-const HALVE_THRESHOLDS: u64 = 8;
-const HALVE_REPORTS: u64 = 24;
-const SWEEP_STEP: u64 = 100;
-
-/// The method that should take least time, by rough step counts.
-pub fn fastest(sets: &Sets, thresholds: &Thresholds) -> Method {
-    let marks = thresholds.values().len() as u64;
-    let halvings = |count: u64| u64::from(count.max(1).ilog2());
-    let (mut query, mut augmentation, mut sharing) = (0u64, 0u64, 0u64);
-    for set in sets.all() {
-        let reports = set.len() as u64;
-        let legs = set.occupied().len() as u64;
-        let looks = reports * legs * marks / 2;
-        let search = halvings(reports / legs.max(1)) + 1;
-        query += legs * legs / 2 * LEG_PAIR;
-        query += reports * reports / 2 * (REPORT_PAIR + HALVE_THRESHOLDS * halvings(marks));
-        augmentation += legs * legs / 2 * LEG_PAIR + looks * search * HALVE_REPORTS;
-        sharing += legs * legs / 2 * LEG_PAIR + looks * SWEEP_STEP;
-    }
-    if query <= augmentation && query <= sharing {
-        Method::RangeQuery
-    } else if augmentation < sharing {
-        Method::CountAugmentation
-    } else {
-        Method::NeighbourSharing
-    }
+/// Counts by one method.
+pub fn by(method: Method, network: &Network, sets: &Sets, thresholds: &Thresholds) -> Counts {
+    let count = match method {
+        Method::RangeQuery => range_query,
+        Method::CountAugmentation => count_augmentation,
+        Method::NeighbourSharing => neighbour_sharing,
+    };
+    with_bounded_table(count, network, sets, thresholds)
 }
 
-/// Counts by one method, with its own bounded table from the ends of the legs
-/// that have reports.
-pub fn by(method: Method, network: &Network, sets: &Sets, thresholds: &Thresholds) -> Counts {
+/// Counts by a method with its own bounded table from the ends of the legs that
+/// have reports.
+pub(crate) fn with_bounded_table(
+    count: fn(&Network, &NodeTable, &Sets, &Thresholds) -> Counts,
+    network: &Network,
+    sets: &Sets,
+    thresholds: &Thresholds,
+) -> Counts {
     let legs = sets.all().iter().flat_map(|set| set.occupied()).copied();
     let table = NodeTable::bounded_from(network, thresholds.greatest(), legs);
-    match method {
-        Method::RangeQuery => range_query(network, &table, sets, thresholds),
-        Method::CountAugmentation => count_augmentation(network, &table, sets, thresholds),
-        Method::NeighbourSharing => neighbour_sharing(network, &table, sets, thresholds),
-    }
+    count(network, &table, sets, thresholds)
 }

@@ -256,14 +256,15 @@ pub fn place(network: &Network, location: Location) -> Result<Place, Refusal> {
 }
 
 /// The ends of a place with the gaps to them. A node is its own only end.
-fn ends(network: &Network, place: Place) -> Vec<(u32, u32)> {
-    match place {
-        Place::Node(node) => vec![(node, 0)],
+fn ends(network: &Network, place: Place) -> impl Iterator<Item = (u32, u32)> {
+    let [one, other] = match place {
+        Place::Node(node) => [Some((node, 0)), None],
         Place::Inside { leg, offset } => match network.leg(leg) {
-            Some((first, second, length)) if offset <= length => vec![(first, offset), (second, length - offset)],
-            _ => Vec::new(),
+            Some((first, second, length)) if offset <= length => [Some((first, offset)), Some((second, length - offset))],
+            _ => [None, None],
         },
-    }
+    };
+    one.into_iter().chain(other)
 }
 
 /// Distance of two places from the definition: over the ends of both, and the
@@ -271,8 +272,8 @@ fn ends(network: &Network, place: Place) -> Vec<(u32, u32)> {
 pub fn place_distance(network: &Network, table: &NodeTable, a: Place, b: Place) -> Option<u32> {
     let mut least: Option<u32> = None;
     let mut offer = |length: u32| least = Some(least.map_or(length, |old| old.min(length)));
-    for &(end_a, gap_a) in &ends(network, a) {
-        for &(end_b, gap_b) in &ends(network, b) {
+    for (end_a, gap_a) in ends(network, a) {
+        for (end_b, gap_b) in ends(network, b) {
             if let Some(walk) = table.get(end_a, end_b) {
                 offer(gap_a + walk + gap_b);
             }
@@ -334,7 +335,7 @@ pub fn perimeter_closed(
         return Err(Refusal { number: 2, place: 0 });
     }
     let starts: Vec<(usize, u32)> =
-        ends(network, place).into_iter().map(|(node, gap)| (node as usize - 1, gap)).collect();
+        ends(network, place).map(|(node, gap)| (node as usize - 1, gap)).collect();
     let mut cells = vec![NONE; network.nodes() as usize];
     // A node beyond the radius leads to no offset at the radius.
     dijkstra(adjacency, &starts, Some(radius), &mut cells);

@@ -1,6 +1,7 @@
 //! The table of observed, least and greatest, and the whole program on bytes.
 
-use crate::counts::{by, fastest, Counts, Method};
+use crate::counts::{naive, Counts};
+use crate::distance::NodeTable;
 use crate::lists::Refusal;
 use crate::model::{Network, Sets, Thresholds};
 use crate::text::{parse_network, parse_reports, parse_thresholds};
@@ -45,10 +46,9 @@ pub fn print(rows: &[Row]) -> String {
     out
 }
 
-/// The table of three texts, or the refused file with its refusal. Without a
-/// method, by the one that should be fastest.
+/// The table of three texts, or the refused file with its refusal.
 pub fn table(
-    method: Option<Method>,
+    count: impl FnOnce(&Network, &Sets, &Thresholds) -> Result<Counts, Refusal>,
     network: &[u8],
     reports: &[u8],
     thresholds: &[u8],
@@ -61,19 +61,28 @@ pub fn table(
     let sets = Sets::new(&network, &lists.sets, &lists.legs, &lists.offsets).map_err(at(1))?;
     let values = parse_thresholds(thresholds).map_err(at(2))?;
     let thresholds = Thresholds::new(&values).map_err(at(2))?;
-    let method = method.unwrap_or_else(|| fastest(&sets, &thresholds));
-    let counts = by(method, &network, &sets, &thresholds);
+    let counts = count(&network, &sets, &thresholds).map_err(at(1))?;
     Ok(rows(&counts, &thresholds))
 }
 
-/// What the program prints for three texts.
+/// What is printed for three texts, counted from the definitions.
 pub fn run(network: &[u8], reports: &[u8], thresholds: &[u8]) -> String {
-    run_by(None, network, reports, thresholds)
+    run_by(from_definitions, network, reports, thresholds)
 }
 
-/// The same by one method.
-pub fn run_by(method: Option<Method>, network: &[u8], reports: &[u8], thresholds: &[u8]) -> String {
-    match table(method, network, reports, thresholds) {
+/// Every pair at every threshold, over node distances found the naive way.
+pub fn from_definitions(network: &Network, sets: &Sets, thresholds: &Thresholds) -> Result<Counts, Refusal> {
+    naive(network, &NodeTable::naive(network), sets, thresholds)
+}
+
+/// What is printed for three texts, counted in some way.
+pub fn run_by(
+    count: impl FnOnce(&Network, &Sets, &Thresholds) -> Result<Counts, Refusal>,
+    network: &[u8],
+    reports: &[u8],
+    thresholds: &[u8],
+) -> String {
+    match table(count, network, reports, thresholds) {
         Ok(rows) => print(&rows),
         Err((file, refusal)) => format!("refused,{},{},{}\r\n", file, refusal.number, refusal.place),
     }

@@ -7,6 +7,7 @@ use reference::counts::{self, by, Mark, Method};
 use reference::distance::NodeTable;
 use reference::model::{Network, Sets, Thresholds};
 use reference::random::{self, Rng};
+use reference::tuned;
 
 struct Case {
     network: Network,
@@ -36,7 +37,10 @@ fn methods_equal_the_naive_count() {
             assert_eq!(by(method, &network, &sets, &thresholds), expected, "{method:?} {network:?} {sets:?}");
         }
         pairs += expected.iter().flatten().sum::<u64>();
-        let by_choice = by(counts::fastest(&sets, &thresholds), &network, &sets, &thresholds);
+        // What is only timed has to be right as well.
+        let tuned = tuned::by(Method::CountAugmentation, &network, &sets, &thresholds);
+        assert_eq!(tuned, expected, "{network:?} {sets:?}");
+        let by_choice = tuned::by(tuned::fastest(&sets, &thresholds), &network, &sets, &thresholds);
         assert_eq!(by_choice, expected);
     }
     assert!(pairs > 100_000);
@@ -53,6 +57,7 @@ fn methods_agree_on_larger_inputs() {
         let expected = counts::naive(&network, &NodeTable::new(&network), &sets, &thresholds).unwrap();
         for method in [Method::RangeQuery, Method::CountAugmentation, Method::NeighbourSharing] {
             assert_eq!(by(method, &network, &sets, &thresholds), expected, "{method:?}");
+            assert_eq!(tuned::by(method, &network, &sets, &thresholds), expected, "{method:?}");
         }
     }
 }
@@ -64,6 +69,7 @@ fn stored_numbers_from_their_definition() {
         let Case { network, sets, .. } = case(&mut rng);
         for set in sets.all() {
             let stored = counts::augment(set);
+            assert_eq!(tuned::augment(set), stored);
             assert_eq!((stored.near_first.len(), stored.near_second.len()), (set.len(), set.len()));
             for i in 0..set.len() {
                 let leg = set.legs()[i];

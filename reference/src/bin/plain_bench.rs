@@ -12,6 +12,7 @@ use reference::lists::{check_reports, lay_out};
 use reference::model::{Network, Sets, Thresholds};
 use reference::random::{self, Rng};
 use reference::text::{parse_network, parse_reports, parse_thresholds};
+use reference::tuned;
 
 /// Least time of up to `runs` runs, stopping after about two seconds.
 fn time<T>(what: &str, runs: usize, mut work: impl FnMut() -> T) {
@@ -94,7 +95,7 @@ fn bench() -> Result<(), reference::lists::Refusal> {
             Sets::new(&network, &reports.sets, &reports.legs, &reports.offsets)
         });
         let sets = Sets::new(&network, &reports.sets, &reports.legs, &reports.offsets)?;
-        time("stored numbers of all sets", 100, || sets.all().iter().map(counts::augment).collect::<Vec<_>>());
+        time("stored numbers of all sets", 100, || sets.all().iter().map(tuned::augment).collect::<Vec<_>>());
         for (name, reach) in [("wide", widest), ("narrow", widest / 16)] {
             for count in [64, 1] {
                 let thresholds = Thresholds::new(&random::even_thresholds(count, reach))?;
@@ -103,12 +104,12 @@ fn bench() -> Result<(), reference::lists::Refusal> {
                 let args = (&network, &table, &sets, &thresholds);
                 time(&format!("range query, {case}"), 3, || counts::range_query(args.0, args.1, args.2, args.3));
                 time(&format!("count augmentation, {case}"), 3, || {
-                    counts::count_augmentation(args.0, args.1, args.2, args.3)
+                    tuned::count_augmentation(args.0, args.1, args.2, args.3)
                 });
                 time(&format!("neighbour sharing, {case}"), 3, || {
                     counts::neighbour_sharing(args.0, args.1, args.2, args.3)
                 });
-                println!("    chosen: {:?}", counts::fastest(&sets, &thresholds));
+                println!("    chosen: {:?}", tuned::fastest(&sets, &thresholds));
             }
         }
     }

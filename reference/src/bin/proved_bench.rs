@@ -33,6 +33,7 @@ mod bench {
     use reference::model::Network;
     use reference::random::{self, NetworkInput, ReportInput, Rng, Spread, Spread::Even, Spread::Far, Spread::Short};
     use reference::text;
+    use reference::tuned;
 
     use crate::library;
 
@@ -122,7 +123,7 @@ mod bench {
                     let _ = black_box(proved(input, reports, thresholds, &mut told));
                 },
                 || {
-                    let _ = black_box(calls::counts(plain, input, reports, thresholds, &mut expected));
+                    let _ = black_box(calls::counts(tuned::by, plain, input, reports, thresholds, &mut expected));
                 },
             );
             assert!(told == expected, "{name}, {shape}: counts differ");

@@ -1,6 +1,6 @@
-//! (b) Count augmentation.
+//! (b) Count augmentation, from its definition.
 
-use super::{joined, length_of, walk, Counts};
+use super::Counts;
 use crate::distance::NodeTable;
 use crate::model::{LaidOut, Network, Sets, Thresholds};
 
@@ -16,24 +16,14 @@ pub struct Augmented {
 
 /// Find the stored numbers.
 pub fn augment(set: &LaidOut) -> Augmented {
-    let mut near_first = vec![0; set.len()];
-    let mut near_second = vec![0; set.len()];
-    for &leg in set.occupied() {
-        let range = set.range(leg);
-        let own = &set.offsets()[range.clone()];
-        let near_first = &mut near_first[range.clone()];
-        let near_second = &mut near_second[range];
-        // Equal offsets share the number of the last (first) of them.
-        let mut from = 0;
-        while from < own.len() {
-            let equals = own[from..].iter().take_while(|&&offset| offset == own[from]).count();
-            let to = from + equals;
-            near_first[from..to].fill(to as u32);
-            near_second[from..to].fill((own.len() - from) as u32);
-            from = to;
-        }
+    let mut stored = Augmented { near_first: Vec::new(), near_second: Vec::new() };
+    for (&leg, &own) in set.legs().iter().zip(set.offsets()) {
+        let on_leg = set.first_gaps(leg);
+        stored.near_first.push(on_leg.iter().filter(|&&offset| offset <= own).count() as u32);
+        // No farther from the second end is not below the own offset.
+        stored.near_second.push(on_leg.iter().filter(|&&offset| offset >= own).count() as u32);
     }
-    Augmented { near_first, near_second }
+    stored
 }
 
 /// One leg's reports with their stored numbers.
@@ -41,96 +31,71 @@ struct StoredLeg<'a> {
     offsets: &'a [u32],
     near_first: &'a [u32],
     near_second: &'a [u32],
-    length: i64,
+    length: u32,
 }
 
 impl StoredLeg<'_> {
-    /// How many have an offset not above `reach`: the number stored with the
-    /// last of them.
-    fn up_to(&self, reach: i64) -> u32 {
-        let k = self.offsets.partition_point(|&offset| i64::from(offset) <= reach);
-        k.checked_sub(1).map_or(0, |last| self.near_first[last])
+    /// How many lie within reach of the first end: the number stored with the
+    /// farthest of them.
+    fn by_first(&self, reach: u64) -> usize {
+        let within = self.offsets.partition_point(|&offset| u64::from(offset) <= reach);
+        within.checked_sub(1).map_or(0, |farthest| self.near_first[farthest] as usize)
     }
 
-    /// How many have an offset not below `from`: the number stored with the
-    /// first of them.
-    fn from(&self, from: i64) -> u32 {
-        let k = self.offsets.partition_point(|&offset| i64::from(offset) < from);
-        self.near_second.get(k).copied().unwrap_or(0)
-    }
-
-    fn all(&self) -> u32 {
-        self.offsets.len() as u32
-    }
-
-    /// How many are reached, so far from the leg's first end and so far from
-    /// its second. Nothing is looked up where it reaches none or all.
-    fn reached(&self, by_u: i64, by_v: i64) -> u32 {
-        if by_u < 0 && by_v < 0 {
-            return 0;
-        }
-        if by_u >= self.length || by_v >= self.length {
-            return self.all();
-        }
-        self.all().min(self.up_to(by_u) + self.from(self.length - by_v))
-    }
-
-    /// The same with those from an offset up to another.
-    fn reached_around(&self, by_u: i64, by_v: i64, from: i64, to: i64) -> u32 {
-        let below = self.all() - self.from(from);
-        joined(self.all(), self.up_to(by_u), self.from(self.length - by_v), below, self.up_to(to))
+    /// The same from the second end.
+    fn by_second(&self, reach: u64) -> usize {
+        let beyond = self.offsets.partition_point(|&offset| u64::from(self.length - offset) > reach);
+        self.near_second.get(beyond).map_or(0, |&number| number as usize)
     }
 }
 
-/// For each unordered pair of legs and each threshold,
-/// unless no end of the one is in reach of an end of the other, or the whole of
-/// the one is in reach of the whole of the other: for each report of the first
-/// leg two looked-up numbers (four on one leg) with the overlap taken off.
+/// The shorter of the ways that exist.
+fn shorter(one: Option<u64>, other: Option<u64>) -> Option<u64> {
+    one.into_iter().chain(other).min()
+}
+
+/// For each report, each leg and each threshold: what is left of the threshold
+/// at either end of the leg is looked up, and a report that is reached from both
+/// ends counts once. On the report's own leg those count too whose offsets
+/// differ by no more than the threshold, and itself does not.
 pub fn count_augmentation(network: &Network, table: &NodeTable, sets: &Sets, thresholds: &Thresholds) -> Counts {
     sets.all().iter().map(|set| count_augmentation_set(network, table, set, thresholds)).collect()
 }
 
 fn count_augmentation_set(network: &Network, table: &NodeTable, set: &LaidOut, thresholds: &Thresholds) -> Vec<u64> {
     let stored = augment(set);
-    let mut row = vec![0u64; thresholds.values().len()];
-    for (rank, &one) in set.occupied().iter().enumerate() {
-        let one_length = length_of(network, one);
-        for &two in &set.occupied()[rank..] {
-            let ends = table.leg_ends(network, one, two);
-            if ends == [None; 4] {
-                continue;
-            }
-            let [au, av, bu, bv] = ends.map(walk);
-            let nearest = au.min(av).min(bu).min(bv);
+    let mut row = vec![0; thresholds.values().len()];
+    for (&own, &offset) in set.legs().iter().zip(set.offsets()) {
+        let own_length = network.lengths()[own as usize - 1];
+        let gaps = [offset, own_length - offset].map(u64::from);
+        for (index, &length) in network.lengths().iter().enumerate() {
+            let two = index as u32 + 1;
             let range = set.range(two);
             let leg = StoredLeg {
                 offsets: &set.offsets()[range.clone()],
                 near_first: &stored.near_first[range.clone()],
                 near_second: &stored.near_second[range],
-                length: length_of(network, two),
+                length,
             };
+            let all = leg.offsets.len();
+            let [au, av, bu, bv] = table.leg_ends(network, own, two).map(|distance| distance.map(u64::from));
+            let to_first = shorter(au.map(|metres| gaps[0] + metres), bu.map(|metres| gaps[1] + metres));
+            let to_second = shorter(av.map(|metres| gaps[0] + metres), bv.map(|metres| gaps[1] + metres));
             for (cell, &threshold) in row.iter_mut().zip(thresholds.values()) {
-                let threshold = i64::from(threshold);
-                if one != two && nearest > threshold {
-                    continue;
-                }
-                let count = if one != two && nearest + one_length + leg.length <= threshold {
-                    set.first_gaps(one).len() as u64 * u64::from(leg.all())
-                } else {
-                    let reached = |&x: &u32| {
-                        let x = i64::from(x);
-                        let by_u = threshold - (x + au).min(one_length - x + bu);
-                        let by_v = threshold - (x + av).min(one_length - x + bv);
-                        u64::from(if one == two {
-                            leg.reached_around(by_u, by_v, x - threshold, x + threshold) - 1
-                        } else {
-                            leg.reached(by_u, by_v)
-                        })
+                let threshold = u64::from(threshold);
+                let left = |way: Option<u64>| way.and_then(|metres| threshold.checked_sub(metres));
+                let by_first = left(to_first).map_or(0, |reach| leg.by_first(reach));
+                let by_second = left(to_second).map_or(0, |reach| leg.by_second(reach));
+                *cell += if own == two {
+                    let not_above = leg.by_first(gaps[0] + threshold);
+                    let not_below = leg.by_second(gaps[1] + threshold);
+                    let is_reached = |&place: &usize| {
+                        place < by_first || place + by_second >= all || (place < not_above && place + not_below >= all)
                     };
-                    set.first_gaps(one).iter().map(reached).sum()
-                };
-                // Two legs count once from either.
-                *cell += if one == two { count } else { 2 * count };
+                    (0..all).filter(is_reached).count() - 1
+                } else {
+                    all.min(by_first + by_second)
+                } as u64;
             }
         }
     }

@@ -40,7 +40,8 @@ impl Case {
     fn compare(&self, proved: Proved, plain: Method) -> Result<Vec<u32>, Refusal> {
         let (mut told_list, mut expected_list) = (self.answers.clone(), self.answers.clone());
         let told = proved(&self.network, &self.reports, &self.thresholds, &mut told_list);
-        let expected = calls::counts(plain, &self.network, &self.reports, &self.thresholds, &mut expected_list);
+        let expected =
+            calls::counts(counts::by, plain, &self.network, &self.reports, &self.thresholds, &mut expected_list);
         assert_eq!(told, expected, "{plain:?} {self:?}");
         assert_eq!(told_list, expected_list, "{plain:?} {self:?}");
         told.map(|()| told_list)
