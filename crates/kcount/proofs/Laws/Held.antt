@@ -1,4 +1,4 @@
--- With room enough the answer is a number of bytes, and they are the report's. A report over fronts of three lists.
+-- With room enough the answer is a number of bytes, and they are the report's.
 use mathlib.Core.List.{List}
 use mathlib.Core.Path.{_≡_, sym, _∙_}
 use Prim.Native.Nat.{ℕ, _≤_}
