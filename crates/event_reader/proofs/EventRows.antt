@@ -10,22 +10,22 @@ use Rattle.model.specs.Limits.{maxEvents}
 use Rattle.model.specs.Network.{Network}
 use Rattle.text.specs.Fields.{sameBytes}
 use Rattle.text.specs.Lines.{csvLines}
-use Rattle.text.specs.NextLine.{NextLine}
+use Rattle.text.proofs.Laws.Lines.{NextLine}
 use Rattle.text.specs.Reading.{taken, refused, refusedAt, readLines, require, noHeader}
-use Rattle.text.specs.EventText.{Row, EventState, before-header, rows, takeNumbers, eventStep, eventEnd, eventLines, eventHeader}
+use Rattle.text.specs.EventText.{Row, EventState, before-header, rows, takeNumbers, eventStep, eventEnd, eventLines, eventHeader, row}
 use Rattle.text.specs.declared.fields.Numbers.{Numbers}
 use Rattle.text.specs.declared.fields.Numbers.the-variants.{Nothing, One, Two, Three}
 use Rattle.validate.specs.Part.{withLengths}
-use Rattle.reading.specs.Header.{isHeaded, RowsAt}
-use Rattle.reading.specs.Parallel.{Level}
+use Rattle.reading.specs.Header.{isHeaded}
+use Rattle.reading.proofs.Headed.{RowsAt, no-lines, rows-left, no-rows, rows-are}
+use Rattle.text.specs.Parallel.{Level}
 use Rattle.reading.specs.Answers.{entries}
 use Rattle.reading.specs.declared.answers.ReadList.{ReadList}
 use Rattle.reading.specs.declared.answers.ReadList.the-variants as list-answer
 use Rattle.reading.specs.declared.line.LineRead.{LineRead}
 use Rattle.reading.specs.declared.line.LineRead.the-variants as line-answer
-use Rattle.reading.proofs.Headed.{no-lines, rows-left, no-rows, rows-are}
 use Rattle.reading.proofs.Progress.{Progress, rest, begins, goes-on, stops, all-read}
-use Rattle.event_reader.specs.Steps.{row, rowsIn, rowsAfter, allRows, EventRows, EventsTaken}
+use Rattle.event_reader.specs.Steps.{rowsIn, rowsAfter, allRows, EventRows, EventsTaken}
 use Rattle.event_reader.proofs.RowSteps.{RowTaken, row-taken, rows-length}
 
 -- the row of a line that is taken
@@ -48,7 +48,7 @@ rows-begin lengths bytes sets edges offsets l =
     record { few = omega arith; level = l; progress = begins csvLines (eventStep (withLengths lengths)) 2 (rows []) bytes }
 
 -- A row, from what a line's step answers.
-module _ {lengths bytes sets edges offsets : List ℕ} {at count : ℕ} (t : RowsSoFar lengths bytes sets edges offsets at count) {end onward : ℕ} (h : at < length bytes) (n : NextLine csvLines 2 (rest bytes at) end onward) {r : LineRead} {sets′ edges′ offsets′ : List ℕ} (e : eventStep (withLengths lengths) (rows (rowsIn count sets edges offsets)) (take end (rest bytes at)) ≡ rowsAfter r count sets′ edges′ offsets′) where
+module _ {lengths bytes sets edges offsets : List ℕ} {at count : ℕ} (t : RowsSoFar lengths bytes sets edges offsets at count) {end onward : ℕ} (h : at < length bytes) (n : NextLine csvLines (rest bytes at) end onward) {r : LineRead} {sets′ edges′ offsets′ : List ℕ} (e : eventStep (withLengths lengths) (rows (rowsIn count sets edges offsets)) (take end (rest bytes at)) ≡ rowsAfter r count sets′ edges′ offsets′) where
   -- it is taken
   pub one-taken : r ≡ line-answer.Taken → Level maxEvents sets′ edges′ offsets′ → RowsSoFar lengths bytes sets′ edges′ offsets′ (at + onward) (count + 1)
   unfolding rowsAfter eventStep

@@ -12,15 +12,14 @@ use Rattle.model.specs.Limits.{maxEvents}
 use Rattle.model.specs.Network.{Network, edges}
 use Rattle.model.specs.Refusal.{badSet, noEdge, beyondEdge, tooManyEvents}
 use Rattle.model.specs.declared.check.Check.the-variants.{Accepted}
-use Rattle.text.specs.EventText.{Row, EventState, before-header, rows, eventStep, eventEnd, eventLines}
+use Rattle.text.specs.EventText.{Row, EventState, before-header, rows, eventStep, eventEnd, eventLines, row}
 use Rattle.text.specs.Reading.{taken, Outcome, read, refusedAt, readLines, noHeader, lengthCheck}
 use Rattle.text.specs.Lines.{csvLines}
 use Rattle.reading.specs.Answers.{checkOf}
 use Rattle.reading.proofs.Laws.Answers.{list-read}
 use Rattle.reading.proofs.Laws.Kept.{all-kept, each-snoc, at-index}
 use Rattle.reading.proofs.Require.{passed}
-use Rattle.event_reader.specs.Answers.{textRows, eventTextCheck}
-use Rattle.event_reader.specs.Steps.{row}
+use Rattle.event_reader.specs.Answers.{textRows, eventFileCheck}
 use Rattle.event_reader.proofs.EventRows.{line-taken}
 use Rattle.event_reader.proofs.RowSteps.{RowGood}
 
@@ -106,13 +105,12 @@ module _ (net : Network) (all : List Row) (g : RowsGood net all) where
       ∙ or-else-next _ (or-else-next _ edges-pass ∙ or-else-next _ offsets-pass ∙ count-passes)
 
 -- The rows of a text that is accepted pass the check of all sets over the network.
-module _ (net : Network) (bytes sets edges offsets : List ℕ) where
-  pub events-pass : eventTextCheck net bytes sets edges offsets ≡ Accepted → setsOverNetworkCheck net (map (λ r. r .set) (textRows net bytes)) (map (λ r. r .edge) (textRows net bytes)) (map (λ r. r .offset) (textRows net bytes)) ≡ Accepted
-  unfolding eventTextCheck textRows
+module _ (net : Network) (bytes : List ℕ) where
+  pub events-pass : eventFileCheck net bytes ≡ Accepted → setsOverNetworkCheck net (map (λ r. r .set) (textRows net bytes)) (map (λ r. r .edge) (textRows net bytes)) (map (λ r. r .offset) (textRows net bytes)) ≡ Accepted
+  unfolding eventFileCheck textRows
   events-pass e =
       let one = both-accepted (lengthCheck bytes) _ e .1 in
       let two = both-accepted (networkCheck net) _ one in
       let three = both-accepted (checkOf (eventLines net (csvLines bytes))) _ (two .1) in
-      let four = both-accepted (equalSetsCheck (map (λ r. r .set) (textRows net bytes))) _ (three .1) in
       sixteen-left net (textRows net bytes) (read-good net (csvLines bytes) (textRows net bytes) (list-read _ (three .0))) (two .0)
-      ∙ four .0
+      ∙ three .1

@@ -11,15 +11,15 @@ use lib.Seq.{length-take-le}
 use Rattle.model.specs.Limits.{maxSet, maxEvents}
 use Rattle.model.specs.Network.{Network, edges, size}
 use Rattle.model.specs.Refusal.{isBetween, badSet, noEdge, beyondEdge, tooManyEvents}
-use Rattle.text.specs.EventText.{Row, EventState, rows, takeRow}
+use Rattle.text.specs.EventText.{Row, EventState, rows, takeRow, row}
 use Rattle.text.specs.Reading.{taken, refused}
 use Rattle.validate.specs.Part.{withLengths}
-use Rattle.reading.specs.Parallel.{beside, Level}
+use Rattle.text.specs.Parallel.{beside, Level}
 use Rattle.reading.specs.declared.line.LineRead.{LineRead}
 use Rattle.reading.specs.declared.line.LineRead.the-variants as line-answer
-use Rattle.reading.proofs.Parallel.{beside-length, one-more}
+use Rattle.text.proofs.Laws.Parallel.{beside-length, one-more}
 use Rattle.reading.proofs.Require.{holds, fails, passed}
-use Rattle.event_reader.specs.Steps.{row, rowsIn, rowAfter, RowChecked, rowsAfter}
+use Rattle.event_reader.specs.Steps.{rowsIn, rowAfter, RowChecked, rowsAfter}
 
 -- a row's own tests: 12 to 14
 pub record RowGood (net : Network) (r : Row) : Type 0 where

@@ -6,27 +6,27 @@ use native.Mathlib.Omega.{arith}
 use lib.ListN.{length, take, length-map}
 use Rattle.model.proofs.Laws.CheckParts.{set-lists-accepted}
 use Rattle.model.proofs.Laws.Refusal.{or-else-next, or-else-refused, both-accepted}
-use Rattle.model.specs.Checks.{networkLists, setLists, networkCheck, setsOverNetworkCheck}
+use Rattle.model.specs.Checks.{networkLists, setLists, networkCheck, equalSetsCheck, setsOverNetworkCheck}
 use Rattle.model.specs.Limits.{maxEvents}
 use Rattle.model.specs.Network.{Network}
 use Rattle.model.specs.Refusal.{orElse}
 use Rattle.model.specs.declared.check.Check.{Check}
 use Rattle.model.specs.declared.check.Check.the-variants.{Accepted, Refused}
-use Rattle.text.specs.EventText.{Row, EventState, before-header, rows, takeRow, takeNumbers, eventStep, eventEnd, eventLines}
+use Rattle.text.specs.EventText.{Row, EventState, before-header, rows, takeRow, takeNumbers, eventStep, eventEnd, eventLines, row}
 use Rattle.text.specs.Lines.{csvLines}
 use Rattle.text.specs.Reading.{read, refusedAt, lengthCheck}
 use Rattle.text.specs.declared.fields.Numbers.{Numbers}
 use Rattle.text.specs.declared.fields.Numbers.the-variants.{Nothing, One, Two, Three}
 use Rattle.validate.specs.Part.{withLengths}
 use Rattle.reading.specs.Answers.{checkOf, listIn, listAnswer, entries, roomsCheck, AnsweredThree}
-use Rattle.reading.specs.Parallel.{Level}
+use Rattle.text.specs.Parallel.{Level}
 use Rattle.reading.specs.declared.answers.ReadList.{ReadList}
 use Rattle.reading.specs.declared.answers.ReadList.the-variants as list-answer
 use Rattle.reading.proofs.Answering.{or-else-both, unchanged, answer-refused, rooms-decide}
-use Rattle.reading.proofs.Parallel.{comes-out-to}
+use Rattle.text.proofs.Laws.Parallel.{comes-out-to}
 use Rattle.reading.proofs.Progress.{read-alike}
-use Rattle.event_reader.specs.Answers.{textRows, eventTextCheck, EventsRead}
-use Rattle.event_reader.specs.Steps.{row, rowsIn, allRows, EventsTaken, rowsCheck, RowsAnswered}
+use Rattle.event_reader.specs.Answers.{textRows, eventFileCheck, eventTextCheck, EventsRead}
+use Rattle.event_reader.specs.Steps.{rowsIn, allRows, EventsTaken, rowsCheck, RowsAnswered}
 use Rattle.event_reader.proofs.Laws.{read-good, sixteen-left}
 
 -- rows that pass the check of all sets stand in lists of one length
@@ -88,8 +88,8 @@ module _ (net : Network) (bytes sets edges offsets : List ℕ) where
 
   -- 1, or a fault of the network
   pub lent-refused : {number place : ℕ} → orElse (lengthCheck bytes) (networkCheck net) ≡ Refused number place → EventsRead net bytes sets edges offsets (list-answer.Refused number place) sets edges offsets
-  unfolding eventTextCheck
-  lent-refused e = events-refused (or-else-both (lengthCheck bytes) (networkCheck net) _ e)
+  unfolding eventTextCheck eventFileCheck
+  lent-refused e = events-refused (or-else-refused _ (or-else-both (lengthCheck bytes) (networkCheck net) _ e))
 
   -- Neither: the lines decide.
   module _ (lent : orElse (lengthCheck bytes) (networkCheck net) ≡ Accepted) where
@@ -97,18 +97,19 @@ module _ (net : Network) (bytes sets edges offsets : List ℕ) where
     accepted = both-accepted (lengthCheck bytes) (networkCheck net) lent
 
     pub lines-refused : {r : ReadList} {xs ys zs : List ℕ} {number place : ℕ} → EventsTaken (net .lengths) bytes r xs ys zs → r ≡ list-answer.Refused number place → EventsRead net bytes sets edges offsets (list-answer.Refused number place) sets edges offsets
-    unfolding eventTextCheck allRows checkOf
+    unfolding eventTextCheck eventFileCheck allRows checkOf
     lines-refused {number = number} {place = place} t e =
         let outcome : eventLines net (csvLines bytes) ≡ refusedAt number place = lines-alike net (csvLines bytes) ∙ t .outcome ∙ rw e in
-        events-refused (or-else-next _ (accepted .0) ∙ or-else-next _ (accepted .1) ∙ or-else-refused _ (ap checkOf outcome))
+        events-refused (or-else-refused _ (or-else-next _ (accepted .0) ∙ or-else-next _ (accepted .1) ∙ or-else-refused _ (ap checkOf outcome)))
 
     -- all lines are read: 16 and 2 decide
     answered : (all : List Row) {answer : ReadList} {sets′ edges′ offsets′ : List ℕ} → eventLines net (csvLines bytes) ≡ read all → RowsAnswered net (map (λ r. r .set) all) (map (λ r. r .edge) all) (map (λ r. r .offset) all) sets edges offsets answer sets′ edges′ offsets′ → EventsRead net bytes sets edges offsets answer sets′ edges′ offsets′
-    unfolding eventTextCheck checkOf textRows listIn rowsCheck roomsCheck orElse
+    unfolding eventTextCheck eventFileCheck checkOf textRows listIn rowsCheck
     answered all e a =
         let long : length (map (λ (r : Row). r .set) all) ≡ length all = length-map all (λ (r : Row). r .set) in
         let sixteen = sixteen-left net all (read-good net (csvLines bytes) all e) (accepted .1) in
-        let check : eventTextCheck net bytes sets edges offsets ≡ rowsCheck net (map (λ r. r .set) all) (map (λ r. r .edge) all) (map (λ r. r .offset) all) sets edges offsets = or-else-next _ (accepted .0) ∙ or-else-next _ (accepted .1) ∙ rw (e, sixteen, long) in
+        let file : eventFileCheck net bytes ≡ equalSetsCheck (map (λ r. r .set) all) = or-else-next _ (accepted .0) ∙ or-else-next _ (accepted .1) ∙ or-else-next _ (ap checkOf e) ∙ rw e in
+        let check : eventTextCheck net bytes sets edges offsets ≡ rowsCheck net (map (λ r. r .set) all) (map (λ r. r .edge) all) (map (λ r. r .offset) all) sets edges offsets = rw (file, e, sixteen, long) in
         record {
           answer = rw (check, e, ← long) (a .answer);
           sets-after = rw (check, e) (a .sets-after);

@@ -11,17 +11,14 @@ use Rattle.model.specs.Refusal.{orElse}
 use Rattle.model.specs.declared.check.Check.{Check}
 use Rattle.text.specs.Lines.{csvLines}
 use Rattle.text.specs.Reading.{Step, taken, refused, Outcome, read, refusedAt, readLines}
-use Rattle.text.specs.EventText.{Row, EventState, rows, takeRow, eventStep, eventEnd, eventLines}
+use Rattle.text.specs.EventText.{Row, row, EventState, rows, takeRow, eventStep, eventEnd, eventLines}
 use Rattle.validate.specs.Part.{withLengths}
 use Rattle.reading.specs.Answers.{listAnswer, entries, roomsCheck}
-use Rattle.reading.specs.Parallel.{beside}
+use Rattle.text.specs.Parallel.{beside}
 use Rattle.reading.specs.declared.answers.ReadList.{ReadList}
 use Rattle.reading.specs.declared.answers.ReadList.the-variants as list-answer
 use Rattle.reading.specs.declared.line.LineRead.{LineRead}
 use Rattle.reading.specs.declared.line.LineRead.the-variants as line-answer
-
-abbrev pub row : ℕ → ℕ → ℕ → Row
-row set edge offset = record { set = set; edge = edge; offset = offset }
 
 -- the first count rows of three lists
 unfoldable pub rowsIn : ℕ → List ℕ → List ℕ → List ℕ → List Row

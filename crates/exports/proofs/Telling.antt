@@ -15,7 +15,7 @@ use Rattle.reading.specs.declared.answers.ReadList.{ReadList}
 use Rattle.reading.specs.declared.answers.ReadList.the-variants as list-answer
 use Rattle.network_reader.specs.declared.answers.ReadNetwork.{ReadNetwork}
 use Rattle.network_reader.specs.declared.answers.ReadNetwork.the-variants as network-answer
-use Rattle.exports.specs.Told.{Told, ToldWith, lengthVerdict, lengthCode, boundedVerdict, boundedCode, countVerdict, countOf, listVerdict, readOf, networkVerdict, edgesRead, nodesRead, ToldNetwork}
+use Rattle.exports.specs.Told.{Told, ToldWith, lengthVerdict, lengthCode, boundedVerdict, boundedCode, countVerdict, countOf, listVerdict, networkVerdict, nodesRead, ToldNetwork}
 use mathlib.Core.List.{List}
 use lib.ListN.{length}
 use Rattle.model.specs.Checks.{layoutCheck}
@@ -25,10 +25,10 @@ use Rattle.distance.specs.Answers.{rowCheck, RowAnswered, tableCheck, TableAnsw
 use Rattle.prepare.specs.Counts.{countsCheck, CountsAnswered}
 use Rattle.count_augmentation.specs.Augmented.{augmentCheck, Augmented}
 use Rattle.sweep.specs.Answers.{cursorsCheck, CursorsAnswered}
-use Rattle.reading.specs.Answers.{listAnswer}
+use Rattle.reading.specs.Answers.{listAnswer, entries}
 use Rattle.threshold_reader.specs.Answers.{thresholdTextCheck, textThresholds, ThresholdsRead}
 use Rattle.event_reader.specs.Answers.{eventTextCheck, textRows, EventsRead}
-use Rattle.network_reader.specs.Answers.{networkAnswer, networkTextCheck, textNetwork, NetworkRead}
+use Rattle.network_reader.specs.Answers.{edgesRead, networkAnswer, networkTextCheck, textNetwork, NetworkRead}
 
 -- nothing is refused
 pub told-accepted : {v : Check} → v ≡ Accepted → Told v 0 0
@@ -84,13 +84,13 @@ pub count-refused : {a : Counted} {n p : ℕ} → a ≡ count-answer.Refused n p
 unfolding countVerdict countOf
 count-refused e = with-refused countVerdict countOf e refl refl
 
-pub list-read : {a : ReadList} {n : ℕ} → a ≡ list-answer.Read n → ToldWith (listVerdict a) (readOf a) n 0 0
-unfolding listVerdict readOf
-list-read e = with-accepted listVerdict readOf e refl refl
+pub list-read : {a : ReadList} {n : ℕ} → a ≡ list-answer.Read n → ToldWith (listVerdict a) (entries a) n 0 0
+unfolding listVerdict entries
+list-read e = with-accepted listVerdict entries e refl refl
 
-pub list-refused : {a : ReadList} {n p : ℕ} → a ≡ list-answer.Refused n p → ToldWith (listVerdict a) (readOf a) 0 n p
-unfolding listVerdict readOf
-list-refused e = with-refused listVerdict readOf e refl refl
+pub list-refused : {a : ReadList} {n p : ℕ} → a ≡ list-answer.Refused n p → ToldWith (listVerdict a) (entries a) 0 n p
+unfolding listVerdict entries
+list-refused e = with-refused listVerdict entries e refl refl
 
 -- a set laid out, and its verdict told
 pub laid-out : {es xs es′ xs′ : List ℕ} {r : Check} {n p : ℕ} → LaidOut es xs r es′ xs′ → Told r n p → Told (layoutCheck es xs) n p × LaidOut es xs (layoutCheck es xs) es′ xs′
@@ -117,12 +117,12 @@ pub stored-answered : {net : Network} {es xs nf ns nf′ ns′ : List ℕ} {r : 
 stored-answered {net} {es} {xs} {nf} {ns} {nf′} {ns′} {r} {n} {p} stored told = (subst (λ v. Told v n p) (stored .verdict) told, subst (λ v. Augmented net es xs nf ns v nf′ ns′) (stored .verdict) stored)
 
 -- thresholds read, and the answer told
-pub thresholds-read : {bytes old new : List ℕ} {a : ReadList} {r n p : ℕ} → ThresholdsRead bytes old a new → ToldWith (listVerdict a) (readOf a) r n p → ToldWith (listVerdict (listAnswer (thresholdTextCheck bytes old) (length (textThresholds bytes)))) (readOf (listAnswer (thresholdTextCheck bytes old) (length (textThresholds bytes)))) r n p × ThresholdsRead bytes old (listAnswer (thresholdTextCheck bytes old) (length (textThresholds bytes))) new
-thresholds-read {bytes} {old} {new} read told = (retold listVerdict readOf (read .answer) told, subst (λ a. ThresholdsRead bytes old a new) (read .answer) read)
+pub thresholds-read : {bytes old new : List ℕ} {a : ReadList} {r n p : ℕ} → ThresholdsRead bytes old a new → ToldWith (listVerdict a) (entries a) r n p → ToldWith (listVerdict (listAnswer (thresholdTextCheck bytes old) (length (textThresholds bytes)))) (entries (listAnswer (thresholdTextCheck bytes old) (length (textThresholds bytes)))) r n p × ThresholdsRead bytes old (listAnswer (thresholdTextCheck bytes old) (length (textThresholds bytes))) new
+thresholds-read {bytes} {old} {new} read told = (retold listVerdict entries (read .answer) told, subst (λ a. ThresholdsRead bytes old a new) (read .answer) read)
 
 -- events read, and the answer told
-pub events-read : {net : Network} {bytes xs ys zs xs′ ys′ zs′ : List ℕ} {a : ReadList} {r n p : ℕ} → EventsRead net bytes xs ys zs a xs′ ys′ zs′ → ToldWith (listVerdict a) (readOf a) r n p → ToldWith (listVerdict (listAnswer (eventTextCheck net bytes xs ys zs) (length (textRows net bytes)))) (readOf (listAnswer (eventTextCheck net bytes xs ys zs) (length (textRows net bytes)))) r n p × EventsRead net bytes xs ys zs (listAnswer (eventTextCheck net bytes xs ys zs) (length (textRows net bytes))) xs′ ys′ zs′
-events-read {net} {bytes} {xs} {ys} {zs} {xs′} {ys′} {zs′} read told = (retold listVerdict readOf (read .answer) told, subst (λ a. EventsRead net bytes xs ys zs a xs′ ys′ zs′) (read .answer) read)
+pub events-read : {net : Network} {bytes xs ys zs xs′ ys′ zs′ : List ℕ} {a : ReadList} {r n p : ℕ} → EventsRead net bytes xs ys zs a xs′ ys′ zs′ → ToldWith (listVerdict a) (entries a) r n p → ToldWith (listVerdict (listAnswer (eventTextCheck net bytes xs ys zs) (length (textRows net bytes)))) (entries (listAnswer (eventTextCheck net bytes xs ys zs) (length (textRows net bytes)))) r n p × EventsRead net bytes xs ys zs (listAnswer (eventTextCheck net bytes xs ys zs) (length (textRows net bytes))) xs′ ys′ zs′
+events-read {net} {bytes} {xs} {ys} {zs} {xs′} {ys′} {zs′} read told = (retold listVerdict entries (read .answer) told, subst (λ a. EventsRead net bytes xs ys zs a xs′ ys′ zs′) (read .answer) read)
 
 pub network-read : {a : ReadNetwork} {nodes edges : ℕ} → a ≡ network-answer.Read nodes edges → ToldNetwork a edges nodes 0 0
 unfolding networkVerdict edgesRead nodesRead

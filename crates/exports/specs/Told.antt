@@ -12,6 +12,7 @@ use Rattle.perimeter.specs.declared.Counted.{Counted}
 use Rattle.perimeter.specs.declared.Counted.the-variants as count-answer
 use Rattle.reading.specs.declared.answers.ReadList.{ReadList}
 use Rattle.reading.specs.declared.answers.ReadList.the-variants as list-answer
+use Rattle.network_reader.specs.Answers.{edgesRead}
 use Rattle.network_reader.specs.declared.answers.ReadNetwork.{ReadNetwork}
 use Rattle.network_reader.specs.declared.answers.ReadNetwork.the-variants as network-answer
 
@@ -60,18 +61,10 @@ unfoldable pub countOf : Counted → ℕ
 countOf (count-answer.Count n) = n
 countOf (count-answer.Refused number place) = 0
 
-unfoldable pub readOf : ReadList → ℕ
-readOf (list-answer.Read n) = n
-readOf (list-answer.Refused number place) = 0
-
--- a network's answer: the verdict, the edges and the nodes; 0 where refused
+-- a network's answer: the verdict, and the nodes; 0 where refused
 unfoldable pub networkVerdict : ReadNetwork → Check
 networkVerdict (network-answer.Read nodes edges) = Accepted
 networkVerdict (network-answer.Refused number place) = Refused number place
-
-unfoldable pub edgesRead : ReadNetwork → ℕ
-edgesRead (network-answer.Read nodes edges) = edges
-edgesRead (network-answer.Refused number place) = 0
 
 unfoldable pub nodesRead : ReadNetwork → ℕ
 nodesRead (network-answer.Read nodes edges) = nodes

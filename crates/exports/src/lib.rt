@@ -11,11 +11,11 @@ ghost use Rattle.layout.specs.Layout.{LaidOut};
 ghost use Rattle.distance.specs.Answers.{rowCheck, RowAnswered, tableCheck, TableAnswered};
 ghost use Rattle.between.specs.Answers.{nodeAnswer, boundedNodeAnswer, locationAnswer};
 ghost use Rattle.perimeter.specs.Answers.{perimeterAnswer};
-ghost use Rattle.reading.specs.Answers.{listAnswer};
+ghost use Rattle.reading.specs.Answers.{listAnswer, entries};
 ghost use Rattle.threshold_reader.specs.Answers.{thresholdTextCheck, textThresholds, ThresholdsRead};
 ghost use Rattle.event_reader.specs.Answers.{eventTextCheck, textRows, EventsRead};
 ghost use Rattle.network_reader.specs.Answers.{networkAnswer, networkTextCheck, textNetwork, NetworkRead};
-ghost use Rattle.exports.specs.Told.{Told, ToldWith, lengthVerdict, lengthCode, boundedVerdict, boundedCode, countVerdict, countOf, listVerdict, readOf, ToldNetwork};
+ghost use Rattle.exports.specs.Told.{Told, ToldWith, lengthVerdict, lengthCode, boundedVerdict, boundedCode, countVerdict, countOf, listVerdict, ToldNetwork};
 
 // The events of one set, sorted in place by edge and then by offset.
 #[no_mangle]
@@ -165,7 +165,7 @@ pub extern "C" fn kc_read_thresholds(
     number: &mut u32,
     place: &mut usize,
 ) -> usize
-    ensures { λ r. ⌜ ToldWith (listVerdict (listAnswer (thresholdTextCheck (now (text .entry)) (now (thresholds .entry))) (length (textThresholds (now (text .entry)))))) (readOf (listAnswer (thresholdTextCheck (now (text .entry)) (now (thresholds .entry))) (length (textThresholds (now (text .entry)))))) r (now (number .exit)) (now (place .exit)) ⌝ }
+    ensures { λ r. ⌜ ToldWith (listVerdict (listAnswer (thresholdTextCheck (now (text .entry)) (now (thresholds .entry))) (length (textThresholds (now (text .entry)))))) (entries (listAnswer (thresholdTextCheck (now (text .entry)) (now (thresholds .entry))) (length (textThresholds (now (text .entry)))))) r (now (number .exit)) (now (place .exit)) ⌝ }
     ensures { λ r. ⌜ ThresholdsRead (now (text .entry)) (now (thresholds .entry)) (listAnswer (thresholdTextCheck (now (text .entry)) (now (thresholds .entry))) (length (textThresholds (now (text .entry))))) (now (thresholds .exit)) ⌝ }
 {
     let answer = threshold_reader::read_thresholds(text, thresholds);
@@ -186,7 +186,7 @@ pub extern "C" fn kc_read_events(
     number: &mut u32,
     place: &mut usize,
 ) -> usize
-    ensures { λ r. ⌜ ToldWith (listVerdict (listAnswer (eventTextCheck (network nodes (now (firsts .entry)) (now (seconds .entry)) (now (lengths .entry))) (now (text .entry)) (now (sets .entry)) (now (edges .entry)) (now (offsets .entry))) (length (textRows (network nodes (now (firsts .entry)) (now (seconds .entry)) (now (lengths .entry))) (now (text .entry)))))) (readOf (listAnswer (eventTextCheck (network nodes (now (firsts .entry)) (now (seconds .entry)) (now (lengths .entry))) (now (text .entry)) (now (sets .entry)) (now (edges .entry)) (now (offsets .entry))) (length (textRows (network nodes (now (firsts .entry)) (now (seconds .entry)) (now (lengths .entry))) (now (text .entry)))))) r (now (number .exit)) (now (place .exit)) ⌝ }
+    ensures { λ r. ⌜ ToldWith (listVerdict (listAnswer (eventTextCheck (network nodes (now (firsts .entry)) (now (seconds .entry)) (now (lengths .entry))) (now (text .entry)) (now (sets .entry)) (now (edges .entry)) (now (offsets .entry))) (length (textRows (network nodes (now (firsts .entry)) (now (seconds .entry)) (now (lengths .entry))) (now (text .entry)))))) (entries (listAnswer (eventTextCheck (network nodes (now (firsts .entry)) (now (seconds .entry)) (now (lengths .entry))) (now (text .entry)) (now (sets .entry)) (now (edges .entry)) (now (offsets .entry))) (length (textRows (network nodes (now (firsts .entry)) (now (seconds .entry)) (now (lengths .entry))) (now (text .entry)))))) r (now (number .exit)) (now (place .exit)) ⌝ }
     ensures { λ r. ⌜ EventsRead (network nodes (now (firsts .entry)) (now (seconds .entry)) (now (lengths .entry))) (now (text .entry)) (now (sets .entry)) (now (edges .entry)) (now (offsets .entry)) (listAnswer (eventTextCheck (network nodes (now (firsts .entry)) (now (seconds .entry)) (now (lengths .entry))) (now (text .entry)) (now (sets .entry)) (now (edges .entry)) (now (offsets .entry))) (length (textRows (network nodes (now (firsts .entry)) (now (seconds .entry)) (now (lengths .entry))) (now (text .entry))))) (now (sets .exit)) (now (edges .exit)) (now (offsets .exit)) ⌝ }
 {
     let answer = event_reader::read_events(

@@ -1,5 +1,6 @@
 // An answer told as plain numbers: a refusal through number and place, 0 and 0 where there is none.
-ghost use Rattle.exports.specs.Told.{Told, ToldWith, lengthVerdict, lengthCode, boundedVerdict, boundedCode, countVerdict, countOf, listVerdict, readOf, ToldNetwork};
+ghost use Rattle.exports.specs.Told.{Told, ToldWith, lengthVerdict, lengthCode, boundedVerdict, boundedCode, countVerdict, countOf, listVerdict, ToldNetwork};
+ghost use Rattle.reading.specs.Answers.{entries};
 use between::BoundedLength;
 use between::Length;
 use model::Check;
@@ -68,7 +69,7 @@ pub fn tell_count(answer: Counted, number: &mut u32, place: &mut usize) -> u32
 }
 
 pub fn tell_list(answer: ReadList, number: &mut u32, place: &mut usize) -> usize
-    ensures { λ r. ⌜ ToldWith (listVerdict answer) (readOf answer) r (now (number .exit)) (now (place .exit)) ⌝ }
+    ensures { λ r. ⌜ ToldWith (listVerdict answer) (entries answer) r (now (number .exit)) (now (place .exit)) ⌝ }
 {
     *number = 0;
     *place = 0;

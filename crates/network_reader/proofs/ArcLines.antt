@@ -11,15 +11,15 @@ use lib.ListN.{length}
 use Rattle.model.proofs.Laws.Refusal.{both-true, between-true}
 use Rattle.model.specs.Limits.{maxNodes, maxEdges}
 use Rattle.model.specs.Refusal.{isBetween, badSizes}
-use Rattle.text.specs.NetworkText.{reading, turnsLast, takeArc, takeProblem, networkStep}
+use Rattle.text.specs.NetworkText.{reading, turnsLast, takeArc, takeProblem, networkStep, arc}
 use Rattle.text.specs.Reading.{taken, refused, require, noForm, misplaced, notTurned, wrongArcs}
 use Rattle.text.specs.declared.network_line.NetworkLine.{NetworkLine}
 use Rattle.text.specs.declared.network_line.NetworkLine.the-variants as form
-use Rattle.reading.specs.Parallel.{Level}
+use Rattle.text.specs.Parallel.{Level}
 use Rattle.reading.specs.declared.line.LineRead.{LineRead}
 use Rattle.reading.specs.declared.line.LineRead.the-variants as line-answer
 use Rattle.reading.proofs.Require.{holds, fails}
-use Rattle.network_reader.specs.Steps.{arc, arcsIn, arcAfter, ArcChecked, stateIn, announced, came, Sound, stepIn, LineTaken, ProblemTaken}
+use Rattle.network_reader.specs.Steps.{arcsIn, arcAfter, ArcChecked, stateIn, announced, came, Sound, stepIn, LineTaken, ProblemTaken}
 use Rattle.network_reader.specs.declared.arcs.ArcStep.the-variants as arc-answer
 use Rattle.network_reader.specs.declared.arcs.Seen.{Seen}
 use Rattle.network_reader.specs.declared.arcs.Seen.the-variants as seen

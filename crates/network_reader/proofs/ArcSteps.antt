@@ -11,12 +11,12 @@ use lib.Seq.{length-take-le}
 use Rattle.model.proofs.Laws.Refusal.{both-true}
 use Rattle.model.specs.Limits.{maxEdges, maxLength}
 use Rattle.model.specs.Refusal.{isBetween, badNode, selfJoined, badLength}
-use Rattle.text.specs.NetworkText.{ArcRead, turnsLast}
-use Rattle.reading.specs.Parallel.{beside, Level}
+use Rattle.text.specs.NetworkText.{ArcRead, turnsLast, arc, turned, bothWays, arcsOf}
+use Rattle.text.specs.Parallel.{beside, Level}
 use Rattle.reading.specs.declared.line.LineRead.the-variants as line-answer
-use Rattle.reading.proofs.Parallel.{beside-length, beside-at, beside-set}
+use Rattle.text.proofs.Laws.Parallel.{beside-length, beside-at, beside-set}
 use Rattle.reading.proofs.Require.{holds, fails}
-use Rattle.network_reader.specs.Steps.{arc, turned, bothWays, arcsIn, arcAfter, ArcChecked}
+use Rattle.network_reader.specs.Steps.{arcsIn, arcAfter, ArcChecked}
 use Rattle.network_reader.proofs.BothWays.{no-arc, both-length, edge-stored, second-follows, isTurned, last-is}
 
 -- The checks 7 to 9.
@@ -65,7 +65,7 @@ module _ {firsts seconds lengths : List ℕ} (l : Level maxEdges firsts seconds 
 
   -- as many arcs as are counted
   pub arcs-length : (count : ℕ) → count ≤ 2 * maxEdges → length (arcsIn count firsts seconds lengths) ≡ count
-  unfolding arcsIn
+  unfolding arcsIn arcsOf
   arcs-length count h =
       length-take-le count (bothWays (beside arc firsts seconds lengths))
       (omega (arith, both-length (beside arc firsts seconds lengths), edges-length))
@@ -76,13 +76,13 @@ module _ {firsts seconds lengths : List ℕ} (l : Level maxEdges firsts seconds 
 
   -- the last of an odd number of arcs is the edge that was stored last
   last-edge : (k : ℕ) (b : ArcRead) → k < maxEdges → turnsLast (arcsIn (suc (2 * k)) firsts seconds lengths) b ≡ isTurned (arc (getD firsts k 0) (getD seconds k 0) (getD lengths k 0)) b
-  unfolding arcsIn
+  unfolding arcsIn arcsOf
   last-edge k b h =
       last-is (beside arc firsts seconds lengths) k b (omega (arith, edges-length)) ∙ ap (λ (a : ArcRead). isTurned a b) (edge-is k h)
 
   -- behind an edge's first arc its second comes
   follows : (k : ℕ) → k < maxEdges → arcsIn (suc (suc (2 * k))) firsts seconds lengths ≡ arcsIn (suc (2 * k)) firsts seconds lengths ++ (turned (getD (beside arc firsts seconds lengths) k no-arc) ∷ [])
-  unfolding arcsIn
+  unfolding arcsIn arcsOf
   follows k h = second-follows (beside arc firsts seconds lengths) k (omega (arith, edges-length))
 
   -- 10 of a second arc
@@ -94,7 +94,7 @@ module _ {firsts seconds lengths : List ℕ} (l : Level maxEdges firsts seconds 
 
   -- a first arc is stored as an edge
   pub first-stored : (count u v w : ℕ) → (count % 2 ≡ 1 → ⊥) → count < 2 * maxEdges → arcsIn (suc count) (set firsts (count / 2) u) (set seconds (count / 2) v) (set lengths (count / 2) w) ≡ arcsIn count firsts seconds lengths ++ (arc u v w ∷ [])
-  unfolding arcsIn
+  unfolding arcsIn arcsOf
   first-stored count u v w even h =
       rw (beside-set arc firsts seconds lengths (count / 2) u v w)
       (ap (λ (n : ℕ). take (suc n) (bothWays (set (beside arc firsts seconds lengths) (count / 2) (arc u v w)))) (half-even count even)

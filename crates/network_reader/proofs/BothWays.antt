@@ -7,8 +7,7 @@ use native.Mathlib.Omega.{arith}
 use lib.Dec.{eqb}
 use lib.ListN.{length, take, set, getD, length-set}
 use lib.Seq.{take-suc, getD-set-same}
-use Rattle.text.specs.NetworkText.{ArcRead, turnsLast, everyOther}
-use Rattle.network_reader.specs.Steps.{arc, turned, bothWays}
+use Rattle.text.specs.NetworkText.{ArcRead, turnsLast, everyOther, arc, turned, bothWays}
 
 -- twice one more
 pub two-more : (k : ℕ) → 2 * suc k ≡ suc (suc (2 * k))

@@ -16,15 +16,14 @@ use Rattle.model.specs.Refusal.{isBetween, badSizes, badNode, selfJoined, badLe
 use Rattle.model.specs.declared.check.Check.{Check}
 use Rattle.model.specs.declared.check.Check.the-variants.{Accepted, Refused}
 use Rattle.text.specs.Lines.{feedLines}
-use Rattle.text.specs.NetworkText.{ArcRead, NetworkState, before-problem, reading, networkLine, takeArc, takeProblem, networkStep, networkEnd, ended, networkLines, everyOther, networkOfArcs}
+use Rattle.text.specs.NetworkText.{ArcRead, NetworkState, before-problem, reading, networkLine, takeArc, takeProblem, networkStep, networkEnd, ended, networkLines, everyOther, networkOfArcs, arc}
 use Rattle.text.specs.Reading.{taken, Outcome, read, refusedAt, readLines, lengthCheck, notTurned, wrongArcs}
 use Rattle.text.specs.declared.network_line.NetworkLine.{NetworkLine}
 use Rattle.text.specs.declared.network_line.NetworkLine.the-variants.{Remark, Problem, Arc, Other}
 use Rattle.reading.specs.Answers.{checkOf}
 use Rattle.reading.proofs.Laws.Kept.{all-kept, each-snoc, at-index}
 use Rattle.reading.proofs.Require.{passed}
-use Rattle.network_reader.specs.Answers.{networkIn, textNetwork, networkTextCheck, networkAnswer}
-use Rattle.network_reader.specs.Steps.{arc}
+use Rattle.network_reader.specs.Answers.{networkIn, textNetwork, networkFileCheck, networkAnswer}
 use Rattle.network_reader.specs.declared.answers.ReadNetwork.the-variants as network-answer
 use Rattle.network_reader.proofs.BothWays.{no-arc, two-more}
 
@@ -165,11 +164,9 @@ lines-pass lines =
     by (refusedAt number place) good f = not-accepted f
 
 -- The network of a text that is accepted passes the check of a network.
-pub network-passes : (bytes firsts seconds lengths : List ℕ) → networkTextCheck bytes firsts seconds lengths ≡ Accepted → networkCheck (textNetwork bytes) ≡ Accepted
-unfolding networkTextCheck textNetwork
-network-passes bytes firsts seconds lengths e =
-    let one = both-accepted (lengthCheck bytes) _ e .1 in
-    lines-pass (feedLines bytes) (both-accepted (checkOf (networkLines (feedLines bytes))) _ one .0)
+pub network-passes : (bytes : List ℕ) → networkFileCheck bytes ≡ Accepted → networkCheck (textNetwork bytes) ≡ Accepted
+unfolding networkFileCheck textNetwork
+network-passes bytes e = lines-pass (feedLines bytes) (both-accepted (lengthCheck bytes) _ e .1)
 
 -- a network that was read was accepted, and the answer is its sizes
 pub network-accepted : (check : Check) (net : Network) {nodes count : ℕ} → network-answer.Read nodes count ≡ networkAnswer check net → (check ≡ Accepted) × (nodes ≡ net .nodes) × (count ≡ edges net)

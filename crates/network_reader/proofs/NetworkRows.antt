@@ -10,11 +10,12 @@ use lib.ListN.{length, take}
 use Rattle.model.specs.Limits.{maxEdges}
 use Rattle.text.specs.Lines.{feedLines}
 use Rattle.text.specs.NetworkText.{NetworkState, before-problem, reading, networkLine, networkStep, networkEnd, ended, networkLines}
-use Rattle.text.specs.NextLine.{NextLine}
+use Rattle.text.proofs.Laws.Lines.{NextLine}
 use Rattle.text.specs.Reading.{Step, refused, read, refusedAt, misplaced, wrongArcs}
-use Rattle.reading.specs.Parallel.{Level}
+use Rattle.text.specs.Parallel.{Level}
 use Rattle.reading.proofs.Progress.{Progress, rest, begins, goes-on, stops, all-read, end-place}
-use Rattle.network_reader.specs.Steps.{arcsIn, stateIn, announced, came, Sound, stepIn, LineTaken, allArcs, edgesRead, Ended, NetworkTaken}
+use Rattle.network_reader.specs.Steps.{arcsIn, stateIn, announced, came, Sound, stepIn, LineTaken, allArcs, Ended, NetworkTaken}
+use Rattle.network_reader.specs.Answers.{edgesRead}
 use Rattle.network_reader.specs.declared.answers.ReadNetwork.{ReadNetwork}
 use Rattle.network_reader.specs.declared.answers.ReadNetwork.the-variants as network-answer
 use Rattle.network_reader.specs.declared.arcs.ArcStep.{ArcStep}
@@ -78,7 +79,7 @@ lines-begin bytes firsts seconds lengths l =
     }
 
 -- A line, from what its step answers.
-module _ {bytes : List ℕ} {s : Seen} {firsts seconds lengths : List ℕ} {at place : ℕ} (t : LinesSoFar bytes s firsts seconds lengths at place) {end onward : ℕ} (h : at < length bytes) (n : NextLine feedLines 1 (rest bytes at) end onward) {r : ArcStep} {firsts′ seconds′ lengths′ : List ℕ} (k : LineTaken s (networkLine (take end (rest bytes at))) firsts seconds lengths r firsts′ seconds′ lengths′) where
+module _ {bytes : List ℕ} {s : Seen} {firsts seconds lengths : List ℕ} {at place : ℕ} (t : LinesSoFar bytes s firsts seconds lengths at place) {end onward : ℕ} (h : at < length bytes) (n : NextLine feedLines (rest bytes at) end onward) {r : ArcStep} {firsts′ seconds′ lengths′ : List ℕ} (k : LineTaken s (networkLine (take end (rest bytes at))) firsts seconds lengths r firsts′ seconds′ lengths′) where
   -- it is taken
   pub one-taken : {s′ : Seen} → r ≡ arc-answer.Taken s′ → Level maxEdges firsts′ seconds′ lengths′ → LinesSoFar bytes s′ firsts′ seconds′ lengths′ (at + onward) (place + 1)
   unfolding stepIn

@@ -4,7 +4,6 @@ use mathlib.Core.List.{List, []}
 use mathlib.Core.Path.{_≡_}
 use Prim.Native.Nat.{ℕ}
 use Rattle.model.specs.Answer.{written}
-use Rattle.model.specs.Checks.{roomCheck}
 use Rattle.model.specs.Network.{Network, network, edges}
 use Rattle.model.specs.Refusal.{orElse}
 use Rattle.model.specs.declared.check.Check.{Check}
@@ -12,7 +11,7 @@ use Rattle.model.specs.declared.check.Check.the-variants.{Accepted, Refused}
 use Rattle.text.specs.Lines.{feedLines}
 use Rattle.text.specs.Reading.{Outcome, read, refusedAt, lengthCheck}
 use Rattle.text.specs.NetworkText.{NetworkState, before-problem, reading, networkLines, networkOfArcs}
-use Rattle.reading.specs.Answers.{checkOf}
+use Rattle.reading.specs.Answers.{checkOf, roomsCheck}
 use Rattle.network_reader.specs.declared.answers.ReadNetwork.{ReadNetwork}
 use Rattle.network_reader.specs.declared.answers.ReadNetwork.the-variants as network-answer
 
@@ -25,16 +24,23 @@ networkIn (refusedAt number place) = network 0 [] [] []
 unfoldable pub textNetwork : List ℕ → Network
 textNetwork bytes = networkIn (networkLines (feedLines bytes))
 
+-- the text alone: 1, then the first bad line or what is missing at the end
+unfoldable pub networkFileCheck : List ℕ → Check
+networkFileCheck bytes = orElse (lengthCheck bytes) (checkOf (networkLines (feedLines bytes)))
+
+-- the text, then 2
 unfoldable pub networkTextCheck : List ℕ → List ℕ → List ℕ → List ℕ → Check
 networkTextCheck bytes firsts seconds lengths =
-    let n = edges (textNetwork bytes) in
-    orElse (lengthCheck bytes)
-    (orElse (checkOf (networkLines (feedLines bytes)))
-    (orElse (roomCheck n firsts) (orElse (roomCheck n seconds) (roomCheck n lengths))))
+    orElse (networkFileCheck bytes) (roomsCheck (edges (textNetwork bytes)) firsts seconds lengths)
 
 unfoldable pub networkAnswer : Check → Network → ReadNetwork
 networkAnswer Accepted net = network-answer.Read (net .nodes) (edges net)
 networkAnswer (Refused number place) net = network-answer.Refused number place
+
+-- how many edges were read
+unfoldable pub edgesRead : ReadNetwork → ℕ
+edgesRead (network-answer.Read nodes edges) = edges
+edgesRead (network-answer.Refused number place) = 0
 
 -- the promise: the answer, and the three answer lists before and after
 pub record NetworkRead (bytes firsts seconds lengths : List ℕ) (r : ReadNetwork) (firsts′ seconds′ lengths′ : List ℕ) : Type 0 where

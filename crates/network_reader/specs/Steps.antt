@@ -1,6 +1,6 @@
 -- What the parts of the reader of networks answer: three lists hold the first of every two arcs read so far, side by side.
 use mathlib.Core.Bool.{_&&_, not}
-use mathlib.Core.List.{List, [], _∷_}
+use mathlib.Core.List.{List}
 use mathlib.Core.Path.{_≡_}
 use Prim.Native.Nat.{ℕ, _*_, _%_, _≤_}
 use lib.Dec.{eqb}
@@ -10,15 +10,15 @@ use Rattle.model.specs.Limits.{maxEdges, maxLength}
 use Rattle.model.specs.Network.{Network, edges}
 use Rattle.model.specs.Refusal.{isBetween, badNode, selfJoined, badLength}
 use Rattle.text.specs.Lines.{feedLines}
-use Rattle.text.specs.NetworkText.{ArcRead, NetworkState, before-problem, reading, networkStep, networkEnd, networkLines}
+use Rattle.text.specs.NetworkText.{ArcRead, arcsOf, NetworkState, before-problem, reading, networkStep, networkEnd, networkLines}
 use Rattle.text.specs.Reading.{Step, taken, refused, Outcome, read, refusedAt, require}
 use Rattle.text.specs.declared.network_line.NetworkLine.{NetworkLine}
 use Rattle.text.specs.declared.network_line.NetworkLine.the-variants as form
-use Rattle.reading.specs.Parallel.{beside, Level}
+use Rattle.text.specs.Parallel.{Level}
 use Rattle.reading.specs.Answers.{roomsCheck}
 use Rattle.reading.specs.declared.line.LineRead.{LineRead}
 use Rattle.reading.specs.declared.line.LineRead.the-variants as line-answer
-use Rattle.network_reader.specs.Answers.{networkAnswer}
+use Rattle.network_reader.specs.Answers.{networkAnswer, edgesRead}
 use Rattle.network_reader.specs.declared.answers.ReadNetwork.{ReadNetwork}
 use Rattle.network_reader.specs.declared.answers.ReadNetwork.the-variants as network-answer
 use Rattle.network_reader.specs.declared.arcs.Seen.{Seen}
@@ -26,20 +26,9 @@ use Rattle.network_reader.specs.declared.arcs.Seen.the-variants as seen
 use Rattle.network_reader.specs.declared.arcs.ArcStep.{ArcStep}
 use Rattle.network_reader.specs.declared.arcs.ArcStep.the-variants as arc-answer
 
-abbrev pub arc : ℕ → ℕ → ℕ → ArcRead
-arc from to weight = record { from = from; to = to; weight = weight }
-
-abbrev pub turned : ArcRead → ArcRead
-turned a = arc (a .to) (a .from) (a .weight)
-
--- every arc, and behind it the same turned round
-unfoldable pub bothWays : List ArcRead → List ArcRead
-bothWays [] = []
-bothWays (a ∷ more) = a ∷ turned a ∷ bothWays more
-
 -- the first count arcs that three lists stand for
 unfoldable pub arcsIn : ℕ → List ℕ → List ℕ → List ℕ → List ArcRead
-arcsIn count firsts seconds lengths = take count (bothWays (beside arc firsts seconds lengths))
+arcsIn count firsts seconds lengths = take count (arcsOf firsts seconds lengths)
 
 -- what was seen so far: no `p` line, or nodes, arcs and the number of arcs that came
 unfoldable pub stateIn : Seen → List ℕ → List ℕ → List ℕ → NetworkState
@@ -86,11 +75,6 @@ pub record ProblemTaken (s : Seen) (nodes arcs : ℕ) (r : ArcStep) : Type 0 whe
 unfoldable pub allArcs : ReadNetwork → List ℕ → List ℕ → List ℕ → Outcome NetworkState
 allArcs (network-answer.Read nodes edges) firsts seconds lengths = read (reading nodes (2 * edges) (arcsIn (2 * edges) firsts seconds lengths))
 allArcs (network-answer.Refused number place) firsts seconds lengths = refusedAt number place
-
--- how many edges were read
-unfoldable pub edgesRead : ReadNetwork → ℕ
-edgesRead (network-answer.Read nodes edges) = edges
-edgesRead (network-answer.Refused number place) = 0
 
 -- the end of the text, whatever the lists hold
 pub record Ended (s : Seen) (place : ℕ) (r : ReadNetwork) : Type 0 where

@@ -3,7 +3,7 @@ ghost use mathlib.Core.Path.{_≡_};
 ghost use lib.ListN.{length};
 ghost use Rattle.model.specs.Limits.{maxEdges};
 ghost use Rattle.model.specs.Network.{network};
-ghost use Rattle.reading.specs.Parallel.{Level};
+ghost use Rattle.text.specs.Parallel.{Level};
 ghost use Rattle.network_reader.specs.Answers.{NetworkRead};
 ghost use Rattle.network_reader.specs.Steps.{Sound, Ended, NetworkTaken, EdgesAnswered};
 use crate::answers::ReadNetwork;

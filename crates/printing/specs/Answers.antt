@@ -10,7 +10,8 @@ use Rattle.model.specs.Envelope.{Envelope, no-value, between}
 use Rattle.model.specs.Refusal.{orElse}
 use Rattle.model.specs.declared.check.Check.{Check}
 use Rattle.model.specs.declared.check.Check.the-variants.{Accepted, Refused}
-use Rattle.printing.specs.Bytes.{header, lineEnd, row, refusalLine}
+use Rattle.text.specs.Lines.{lineEnd}
+use Rattle.printing.specs.Bytes.{header, row, refusalLine}
 use Rattle.printing.specs.declared.answers.Printed.{Printed}
 use Rattle.printing.specs.declared.answers.Printed.the-variants as printed
 

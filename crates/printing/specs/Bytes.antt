@@ -1,26 +1,10 @@
--- Printed lines, byte by byte: decimal digits without needless zeros, fields parted by commas, every line ended by
--- carriage return and line feed.
-use mathlib.Core.Bool.{cond}
+-- Printed lines, byte by byte: numbers as their digits, fields parted by commas, every line ended by carriage return and line feed.
 use mathlib.Core.List.{List, [], _∷_, _++_}
-use Prim.Native.Nat.{ℕ, zero, suc, _+_, _/_, _%_}
-use lib.Dec.{ltb}
-use lib.ListN.{getD}
+use Prim.Native.Nat.{ℕ}
 use Rattle.model.specs.Envelope.{Envelope, no-value, between}
-
--- the last so many digits of a number, fewer where it has fewer
-unfoldable pub lastDigits : ℕ → ℕ → List ℕ
-lastDigits zero n = []
-lastDigits (suc more) n = cond (ltb n 10) ((48 + n) ∷ []) (lastDigits more (n / 10) ++ ((48 + n % 10) ∷ []))
-
--- a number of at most 20 digits, as every number of 64 bits is
-unfoldable pub digits : ℕ → List ℕ
-digits n = lastDigits 20 n
-
-abbrev pub comma : ℕ
-comma = 44
-
-abbrev pub lineEnd : List ℕ
-lineEnd = 13 ∷ 10 ∷ []
+use Rattle.text.specs.Digits.{digits}
+use Rattle.text.specs.Fields.{comma}
+use Rattle.text.specs.Lines.{lineEnd}
 
 -- the bytes of `threshold,observed,least,greatest`
 abbrev pub header : List ℕ

@@ -2,7 +2,8 @@
 ghost use mathlib.Core.List.{_∷_, _++_};
 ghost use mathlib.Core.Path.{_≡_};
 ghost use lib.ListN.{length};
-ghost use Rattle.printing.specs.Bytes.{digits, comma};
+ghost use Rattle.text.specs.Digits.{digits};
+ghost use Rattle.text.specs.Fields.{comma};
 ghost use Rattle.printing.specs.Writing.{Put, Room};
 
 // Puts the bytes into the list from a place on, and answers the place behind them.

@@ -1,15 +1,18 @@
 -- A CSV text's header: where it is found the rows are left, where it is missing the text is refused at line 1.
-use mathlib.Core.Bool.{true, false, false≢true}
+use mathlib.Core.Bool.{Bool, true, false, cond, false≢true}
 use mathlib.Core.List.{List, [], _∷_}
 use mathlib.Core.Path.{_≡_, refl, sym, ap, _∙_}
 use Prim.Native.Nat.{ℕ, suc, _≤_}
 use native.Mathlib.Omega.{arith}
-use lib.ListN.{length, take}
+use lib.ListN.{length, take, drop}
 use Rattle.text.specs.Fields.{sameBytes}
 use Rattle.text.specs.Lines.{csvLines}
-use Rattle.text.specs.NextLine.{NextLine}
+use Rattle.text.specs.NextLine.{csvLine}
+use Rattle.text.specs.declared.lines.Line.{Line}
+use Rattle.text.proofs.Laws.Lines.{csv-next}
 use Rattle.text.specs.Reading.{Step, taken, refusedAt, readLines, require, next, noHeader}
-use Rattle.reading.specs.Header.{isHeaded, behindFirst, RowsAt, HeaderRead}
+use Rattle.reading.specs.Header.{isHeaded, headerOf}
+use Rattle.reading.specs.declared.header.Header.{Header}
 use Rattle.reading.specs.declared.header.Header.the-variants.{RowsFrom, Missing}
 use Rattle.reading.proofs.Progress.{rest, rest-is}
 use Rattle.reading.proofs.Require.{holds, fails}
@@ -19,30 +22,67 @@ pub no-lines : csvLines [] ≡ []
 unfolding csvLines
 no-lines = refl
 
+-- the lines behind the first one
+unfoldable pub behindFirst : List (List ℕ) → List (List ℕ)
+behindFirst [] = []
+behindFirst (line ∷ more) = more
+
+-- the first line is the header, and the rows begin at byte n
+pub record RowsAt (header bytes : List ℕ) (n : ℕ) : Type 0 where
+  pub headed : isHeaded header (csvLines bytes) ≡ true
+  pub within : n ≤ length bytes
+  pub rows : csvLines (drop n bytes) ≡ behindFirst (csvLines bytes)
+
+-- the answer by cases
+by-header : (header bytes : List ℕ) {headed : Bool} → isHeaded header (csvLines bytes) ≡ headed → headerOf header bytes ≡ cond headed (RowsFrom (csvLine bytes .next)) Missing
+unfolding headerOf
+by-header header bytes e = rw e
+
 -- a text with no byte has no header
-pub no-text : (header bytes : List ℕ) → length bytes ≡ 0 → HeaderRead header bytes Missing
-unfolding csvLines isHeaded
-no-text header [] e = record { there = λ n w. absurd (let z : _≡_ {A = ℕ} 0 1 = cc in omega arith); missing = λ w. refl }
+pub no-text : (header bytes : List ℕ) → length bytes ≡ 0 → Missing ≡ headerOf header bytes
+unfolding csvLines isHeaded headerOf
+no-text header [] e = refl
 no-text header (b ∷ bytes) e = absurd (omega arith)
 
-module _ (header bytes : List ℕ) {end onward : ℕ} (some : 1 ≤ length bytes) (n : NextLine csvLines 2 bytes end onward) where
+module _ (header bytes : List ℕ) {line : Line} (some : 1 ≤ length bytes) (is : line ≡ csvLine bytes) where
   -- whether the first line is the header
-  headed-is : isHeaded header (csvLines bytes) ≡ sameBytes (take end bytes) header
+  headed-is : isHeaded header (csvLines bytes) ≡ sameBytes (take (line .end) bytes) header
   unfolding isHeaded
-  headed-is = ap (isHeaded header) (n .parts some)
+  headed-is = ap (isHeaded header) (csv-next is .parts some)
 
-  pub header-missing : sameBytes (take end bytes) header ≡ false → HeaderRead header bytes Missing
-  header-missing e = record { there = λ n w. absurd (let z : _≡_ {A = ℕ} 0 1 = cc in omega arith); missing = λ w. headed-is ∙ e }
+  pub header-missing : sameBytes (take (line .end) bytes) header ≡ false → Missing ≡ headerOf header bytes
+  header-missing e = sym (by-header header bytes (headed-is ∙ e))
 
-  pub header-found : sameBytes (take end bytes) header ≡ true → HeaderRead header bytes (RowsFrom onward)
-  unfolding behindFirst
-  header-found e =
-      record {
-        there = λ m w.
-            let same : onward ≡ m = cc in
-            rw (← same) (record { headed = headed-is ∙ e; within = n .inside; rows = sym (ap behindFirst (n .parts some)) });
-        missing = λ w. absurd (let z : _≡_ {A = ℕ} 0 1 = cc in omega arith);
-      }
+  pub header-found : sameBytes (take (line .end) bytes) header ≡ true → RowsFrom (line .next) ≡ headerOf header bytes
+  header-found e = ap (λ (l : Line). RowsFrom (l .next)) is ∙ sym (by-header header bytes (headed-is ∙ e))
+
+-- a headed text has a byte, and the lines behind its first one are the rest
+some-bytes : (header bytes : List ℕ) → isHeaded header (csvLines bytes) ≡ true → 1 ≤ length bytes
+unfolding csvLines isHeaded
+some-bytes header [] e = absurd (false≢true e)
+some-bytes header (b ∷ bytes) e = omega arith
+
+rest-behind : {lines more : List (List ℕ)} {line : List ℕ} → lines ≡ line ∷ more → behindFirst lines ≡ more
+unfolding behindFirst
+rest-behind e = rw e
+
+-- What a caller learns of a header that was found, and of one that is missing.
+pub rows-found : {header bytes : List ℕ} {r : Header} {n : ℕ} → r ≡ headerOf header bytes → r ≡ RowsFrom n → RowsAt header bytes n
+rows-found {header} {bytes} {r} {n} answer found = go (isHeaded header (csvLines bytes)) refl
+  where
+    go : (headed : Bool) → isHeaded header (csvLines bytes) ≡ headed → RowsAt header bytes n
+    go false e = absurd (let z : _≡_ {A = ℕ} 0 1 = cc (by-header header bytes e) in omega arith)
+    go true e =
+        let at : n ≡ csvLine bytes .next = cc (by-header header bytes e) in
+        let line = csv-next {rest = bytes} refl in
+        rw at (record { headed = e; within = line .inside; rows = sym (rest-behind (line .parts (some-bytes header bytes e))) })
+
+pub none-found : (header bytes : List ℕ) {r : Header} → r ≡ headerOf header bytes → r ≡ Missing → isHeaded header (csvLines bytes) ≡ false
+none-found header bytes {r} answer missing = go (isHeaded header (csvLines bytes)) refl
+  where
+    go : (headed : Bool) → isHeaded header (csvLines bytes) ≡ headed → headed ≡ false
+    go false e = refl
+    go true e = absurd (let z : _≡_ {A = ℕ} 0 1 = cc (by-header header bytes e) in omega arith)
 
 -- A reading whose first step asks for the header.
 module _ {State : Type 0} (header : List ℕ) (step : State → List ℕ → Step State) (start first : State) (asks : (line : List ℕ) → step start line ≡ require (sameBytes line header) noHeader (taken first)) where

@@ -5,7 +5,7 @@ use Prim.Native.Nat.{ℕ, suc, _+_, _-_, _≤_, _<_}
 use native.Mathlib.Omega.{arith}
 use lib.ListN.{length, take, drop, length-drop, drop-of-length-le}
 use lib.Seq.{drop-drop, take-all, length-take-le}
-use Rattle.text.specs.NextLine.{NextLine}
+use Rattle.text.proofs.Laws.Lines.{NextLine}
 use Rattle.text.specs.Reading.{Step, taken, refused, read, refusedAt, next, readLines}
 
 -- Two steps that agree on every line read alike.
@@ -41,7 +41,7 @@ module _ {State : Type 0} (lines : List ℕ → List (List ℕ)) (step : State �
 -- From where the loop stands.
 module _ {State : Type 0} {lines : List ℕ → List (List ℕ)} {step : State → List ℕ → Step State} {first : ℕ} {start : State} {text : List ℕ} {s : State} {at place : ℕ} (p : Progress lines step first start text s at place) where
   -- A line that begins at a byte of the text.
-  module _ {width end onward : ℕ} (h : at < length text) (n : NextLine lines width (rest text at) end onward) where
+  module _ {end onward : ℕ} (h : at < length text) (n : NextLine lines (rest text at) end onward) where
     some-left : 1 ≤ length (rest text at)
     some-left = omega (arith, ap length (rest-is text at), length-drop at text)
 

@@ -1,5 +1,6 @@
 // The header of a CSV text.
-ghost use Rattle.reading.specs.Header.{HeaderRead};
+ghost use mathlib.Core.Path.{_≡_};
+ghost use Rattle.reading.specs.Header.{headerOf};
 
 pub enum Header {
     // The byte at which the rows begin.
@@ -9,7 +10,7 @@ pub enum Header {
 
 // 4: the first line is the header.
 pub fn read_header(header: &[u8], text: &[u8]) -> Header
-    ensures { λ r. ⌜ HeaderRead (now (header .entry)) (now (text .entry)) r ⌝ }
+    ensures { λ r. ⌜ r ≡ headerOf (now (header .entry)) (now (text .entry)) ⌝ }
 {
     if text.len() == 0 {
         return Header::Missing;

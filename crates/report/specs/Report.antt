@@ -4,27 +4,22 @@ use mathlib.Core.Path.{_≡_}
 use Prim.Native.Nat.{ℕ, _+_, _*_, _≤_}
 use lib.ListN.{length}
 use Rattle.model.specs.Answer.{written}
-use Rattle.model.specs.Checks.{equalSetsCheck, roomCheck}
+use Rattle.model.specs.Checks.{roomCheck}
 use Rattle.model.specs.Envelope.{Envelope, observed, envelope}
 use Rattle.model.specs.Events.{Event, events}
 use Rattle.model.specs.Limits.{maxThresholds}
 use Rattle.model.specs.Network.{Network}
-use Rattle.model.specs.Refusal.{orElse}
 use Rattle.model.specs.declared.check.Check.{Check}
 use Rattle.model.specs.declared.check.Check.the-variants.{Accepted, Refused}
 use Rattle.printing.specs.Answers.{printedAnswer}
-use Rattle.printing.specs.Bytes.{header, lineEnd, row, refusalLine}
+use Rattle.text.specs.Lines.{lineEnd}
+use Rattle.printing.specs.Bytes.{header, row, refusalLine}
 use Rattle.printing.specs.declared.answers.Printed.{Printed}
 use Rattle.printing.specs.declared.answers.Printed.the-variants as printed
-use Rattle.reading.specs.Answers.{checkOf}
-use Rattle.network_reader.specs.Answers.{textNetwork}
-use Rattle.event_reader.specs.Answers.{textRows}
-use Rattle.threshold_reader.specs.Answers.{textThresholds}
-use Rattle.text.specs.EventText.{Row, eventLines}
-use Rattle.text.specs.Lines.{feedLines, csvLines}
-use Rattle.text.specs.NetworkText.{networkLines}
-use Rattle.text.specs.Reading.{lengthCheck}
-use Rattle.text.specs.ThresholdText.{thresholdLines}
+use Rattle.network_reader.specs.Answers.{textNetwork, networkFileCheck}
+use Rattle.event_reader.specs.Answers.{textRows, eventFileCheck}
+use Rattle.threshold_reader.specs.Answers.{textThresholds, thresholdFileCheck}
+use Rattle.text.specs.EventText.{Row}
 
 -- the bytes of `network.gr`, `reports.csv` and `thresholds.csv`
 abbrev pub networkName : List ℕ
@@ -35,18 +30,6 @@ reportsName = 114 ∷ 101 ∷ 112 ∷ 111 ∷ 114 ∷ 116 ∷ 115 ∷ 46 ∷ 99 
 
 abbrev pub thresholdsName : List ℕ
 thresholdsName = 116 ∷ 104 ∷ 114 ∷ 101 ∷ 115 ∷ 104 ∷ 111 ∷ 108 ∷ 100 ∷ 115 ∷ 46 ∷ 99 ∷ 115 ∷ 118 ∷ []
-
--- 1, then the first bad line or what is missing at the end; of reports last 16
-unfoldable pub networkFileCheck : List ℕ → Check
-networkFileCheck bytes = orElse (lengthCheck bytes) (checkOf (networkLines (feedLines bytes)))
-
-unfoldable pub reportsFileCheck : Network → List ℕ → Check
-reportsFileCheck net bytes =
-    orElse (lengthCheck bytes)
-    (orElse (checkOf (eventLines net (csvLines bytes))) (equalSetsCheck (map (λ r. r .set) (textRows net bytes))))
-
-unfoldable pub thresholdsFileCheck : List ℕ → Check
-thresholdsFileCheck bytes = orElse (lengthCheck bytes) (checkOf (thresholdLines (csvLines bytes)))
 
 -- the line of a file that is refused, otherwise what comes next
 unfoldable pub lineOr : Check → List ℕ → List ℕ → List ℕ
@@ -64,12 +47,12 @@ countsTable net sets es ts = header ++ (lineEnd ++ tableRows (observed net sets 
 -- over a network and rows that were accepted: the thresholds, then the table
 unfoldable pub bytesOverRows : Network → List Row → List ℕ → List ℕ
 bytesOverRows net all thresholds =
-    lineOr (thresholdsFileCheck thresholds) thresholdsName
+    lineOr (thresholdFileCheck thresholds) thresholdsName
     (countsTable net (map (λ r. r .set) all) (events (map (λ r. r .edge) all) (map (λ r. r .offset) all)) (textThresholds thresholds))
 
--- over a network that was accepted: the reports, and so on
+-- over a network that was accepted, which has no fault that the check of the reports could meet: the reports, and so on
 unfoldable pub bytesOverNetwork : Network → List ℕ → List ℕ → List ℕ
-bytesOverNetwork net reports thresholds = lineOr (reportsFileCheck net reports) reportsName (bytesOverRows net (textRows net reports) thresholds)
+bytesOverNetwork net reports thresholds = lineOr (eventFileCheck net reports) reportsName (bytesOverRows net (textRows net reports) thresholds)
 
 unfoldable pub reportBytes : List ℕ → List ℕ → List ℕ → List ℕ
 reportBytes network reports thresholds = lineOr (networkFileCheck network) networkName (bytesOverNetwork (textNetwork network) reports thresholds)

@@ -5,7 +5,7 @@ ghost use Rattle.model.specs.Events.{events};
 ghost use Rattle.model.specs.Limits.{maxThresholds};
 ghost use Rattle.model.specs.Network.{network};
 ghost use Rattle.printing.specs.Answers.{TablePrinted};
-ghost use Rattle.reading.specs.Parallel.{Level};
+ghost use Rattle.text.specs.Parallel.{Level};
 ghost use Rattle.report.specs.Parts.{AllPass};
 ghost use Rattle.report.specs.Report.{BytesPrinted, countsTable};
 use model::Thresholds;

@@ -1,6 +1,6 @@
 // The network text.
 ghost use Rattle.model.specs.Limits.{maxEdges};
-ghost use Rattle.reading.specs.Parallel.{Level};
+ghost use Rattle.text.specs.Parallel.{Level};
 ghost use Rattle.report.specs.Report.{BytesPrinted, reportBytes};
 use crate::reports::print_over_network;
 use network_reader::ReadNetwork;

@@ -1,7 +1,7 @@
 // The report text over a network that passes every check.
 ghost use Rattle.model.specs.Limits.{maxEvents};
 ghost use Rattle.model.specs.Network.{network};
-ghost use Rattle.reading.specs.Parallel.{Level};
+ghost use Rattle.text.specs.Parallel.{Level};
 ghost use Rattle.report.specs.Parts.{NetworkPasses};
 ghost use Rattle.report.specs.Report.{BytesPrinted, bytesOverNetwork};
 use crate::thresholds::print_over_reports;

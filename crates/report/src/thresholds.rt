@@ -4,9 +4,9 @@ ghost use lib.ListN.{length};
 ghost use Rattle.model.specs.Events.{events};
 ghost use Rattle.model.specs.Limits.{maxThresholds};
 ghost use Rattle.model.specs.Network.{network};
-ghost use Rattle.threshold_reader.specs.Answers.{textThresholds};
+ghost use Rattle.threshold_reader.specs.Answers.{textThresholds, thresholdFileCheck};
 ghost use Rattle.report.specs.Parts.{ReportsPass};
-ghost use Rattle.report.specs.Report.{BytesPrinted, countsTable, lineOr, thresholdsFileCheck, thresholdsName};
+ghost use Rattle.report.specs.Report.{BytesPrinted, countsTable, lineOr, thresholdsName};
 use crate::columns::print_columns;
 use model::Thresholds;
 use printing::Printed;
@@ -26,7 +26,7 @@ fn read_with(
     out: &mut [u8],
 ) -> Printed
     requires { ⌜ ReportsPass (network nodes (now firsts) (now seconds) (now lengths)) (now sets) (now edges) (now offsets) × (length (now list) ≡ maxThresholds) ⌝ }
-    ensures { λ r. ⌜ BytesPrinted (lineOr (thresholdsFileCheck (now (thresholds .entry))) thresholdsName (countsTable (network nodes (now (firsts .entry)) (now (seconds .entry)) (now (lengths .entry))) (now (sets .entry)) (events (now (edges .entry)) (now (offsets .entry))) (textThresholds (now (thresholds .entry))))) (now (out .entry)) r (now (out .exit)) ⌝ }
+    ensures { λ r. ⌜ BytesPrinted (lineOr (thresholdFileCheck (now (thresholds .entry))) thresholdsName (countsTable (network nodes (now (firsts .entry)) (now (seconds .entry)) (now (lengths .entry))) (now (sets .entry)) (events (now (edges .entry)) (now (offsets .entry))) (textThresholds (now (thresholds .entry))))) (now (out .entry)) r (now (out .exit)) ⌝ }
 {
     match threshold_reader::read_thresholds(thresholds, list) {
         ReadList::Refused(number, place) => {
@@ -58,7 +58,7 @@ pub(crate) fn print_over_reports(
     out: &mut [u8],
 ) -> Printed
     requires { ⌜ ReportsPass (network nodes (now firsts) (now seconds) (now lengths)) (now sets) (now edges) (now offsets) ⌝ }
-    ensures { λ r. ⌜ BytesPrinted (lineOr (thresholdsFileCheck (now (thresholds .entry))) thresholdsName (countsTable (network nodes (now (firsts .entry)) (now (seconds .entry)) (now (lengths .entry))) (now (sets .entry)) (events (now (edges .entry)) (now (offsets .entry))) (textThresholds (now (thresholds .entry))))) (now (out .entry)) r (now (out .exit)) ⌝ }
+    ensures { λ r. ⌜ BytesPrinted (lineOr (thresholdFileCheck (now (thresholds .entry))) thresholdsName (countsTable (network nodes (now (firsts .entry)) (now (seconds .entry)) (now (lengths .entry))) (now (sets .entry)) (events (now (edges .entry)) (now (offsets .entry))) (textThresholds (now (thresholds .entry))))) (now (out .entry)) r (now (out .exit)) ⌝ }
 {
     let mut list = [0u32; Thresholds::MAX_THRESHOLDS];
     read_with(

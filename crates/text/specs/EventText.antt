@@ -7,13 +7,10 @@ use lib.ListN.{length}
 use Rattle.model.specs.Limits.{maxSet, maxEvents}
 use Rattle.model.specs.Network.{Network, edges, size}
 use Rattle.model.specs.Refusal.{isBetween, badSet, noEdge, beyondEdge, tooManyEvents}
-use Rattle.text.specs.Fields.{fields, sameBytes, numbersOf}
+use Rattle.text.specs.Fields.{comma, fields, sameBytes, numbersOf}
 use Rattle.text.specs.declared.fields.Numbers.{Numbers}
 use Rattle.text.specs.declared.fields.Numbers.the-variants.{Nothing, One, Two, Three}
 use Rattle.text.specs.Reading.{Step, taken, refused, Outcome, read, refusedAt, readLines, require, noForm, noHeader}
-
-abbrev pub comma : ℕ
-comma = 44
 
 -- the bytes of `set,leg,offset`
 abbrev pub eventHeader : List ℕ
@@ -24,6 +21,9 @@ pub record Row : Type 0 where
   pub set : ℕ
   pub edge : ℕ
   pub offset : ℕ
+
+abbrev pub row : ℕ → ℕ → ℕ → Row
+row set edge offset = record { set = set; edge = edge; offset = offset }
 
 -- what was read so far: not even the header, or the rows in order
 pub data EventState : Type 0 where
@@ -43,7 +43,7 @@ unfoldable pub takeNumbers : Network → List Row → Numbers → Step EventStat
 takeNumbers net before Nothing = refused noForm
 takeNumbers net before (One x) = refused noForm
 takeNumbers net before (Two x y) = refused noForm
-takeNumbers net before (Three s e x) = takeRow net before (record { set = s; edge = e; offset = x })
+takeNumbers net before (Three s e x) = takeRow net before (row s e x)
 
 unfoldable pub eventStep : Network → EventState → List ℕ → Step EventState
 eventStep net before-header line = require (sameBytes line eventHeader) noHeader (taken (rows []))

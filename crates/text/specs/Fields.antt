@@ -11,6 +11,13 @@ use Rattle.text.specs.declared.number.Number.the-variants.{Value, NoNumb
 use Rattle.text.specs.declared.fields.Numbers.{Numbers}
 use Rattle.text.specs.declared.fields.Numbers.the-variants.{Nothing, One, Two, Three}
 
+-- the separators: of a CSV line, and of a line of a network text
+abbrev pub comma : ℕ
+comma = 44
+
+abbrev pub space : ℕ
+space = 32
+
 -- the fields of a line, parted by one separator: one more than it has separators
 unfoldable pub fields : ℕ → List ℕ → List (List ℕ)
 fields sep [] = [] ∷ []

@@ -10,6 +10,10 @@ lineFeed = 10
 abbrev pub carriageReturn : ℕ
 carriageReturn = 13
 
+-- the line end of a CSV text
+abbrev pub lineEnd : List ℕ
+lineEnd = carriageReturn ∷ lineFeed ∷ []
+
 -- a byte in front of the first line, which it begins where there is none
 unfoldable pub inFront : ℕ → List (List ℕ) → List (List ℕ)
 inFront b [] = (b ∷ []) ∷ []

@@ -8,15 +8,13 @@ use Rattle.model.specs.Limits.{maxNodes, maxEdges, maxLength}
 use Rattle.model.specs.Network.{Network, network}
 use Rattle.model.specs.Refusal.{isBetween, badSizes, badNode, selfJoined, badLength}
 use Rattle.text.specs.Lines.{feedLines}
-use Rattle.text.specs.Fields.{fields, sameBytes, beginsWith, numbersOf}
+use Rattle.text.specs.Parallel.{beside}
+use Rattle.text.specs.Fields.{space, fields, sameBytes, beginsWith, numbersOf}
 use Rattle.text.specs.declared.fields.Numbers.{Numbers}
 use Rattle.text.specs.declared.fields.Numbers.the-variants.{Nothing, One, Two, Three}
 use Rattle.text.specs.declared.network_line.NetworkLine.{NetworkLine}
 use Rattle.text.specs.declared.network_line.NetworkLine.the-variants.{Remark, Problem, Arc, Other}
 use Rattle.text.specs.Reading.{Step, taken, refused, Outcome, read, refusedAt, readLines, require, noForm, misplaced, notTurned, wrongArcs}
-
-abbrev pub space : ℕ
-space = 32
 
 -- a line: a remark (`c` alone, or `c` and a space and anything), `p sp N M`, `a U V W`, or none of these
 unfoldable pub problemOf : Numbers → NetworkLine
@@ -44,6 +42,12 @@ pub record ArcRead : Type 0 where
   pub from : ℕ
   pub to : ℕ
   pub weight : ℕ
+
+abbrev pub arc : ℕ → ℕ → ℕ → ArcRead
+arc from to weight = record { from = from; to = to; weight = weight }
+
+abbrev pub turned : ArcRead → ArcRead
+turned a = arc (a .to) (a .from) (a .weight)
 
 -- what was read so far: nothing but remarks, or N, M and the arcs in order
 pub data NetworkState : Type 0 where
@@ -77,7 +81,7 @@ networkStep s Remark = taken s
 networkStep before-problem (Problem n m) = takeProblem n m
 networkStep before-problem (Arc u v w) = refused misplaced
 networkStep (reading nodes arcs before) (Problem n m) = refused misplaced
-networkStep (reading nodes arcs before) (Arc u v w) = takeArc nodes arcs before (record { from = u; to = v; weight = w })
+networkStep (reading nodes arcs before) (Arc u v w) = takeArc nodes arcs before (arc u v w)
 
 -- at the end: 5 where no `p` line came, 11 where arcs are missing
 unfoldable pub networkEnd : ℕ → NetworkState → Outcome NetworkState
@@ -99,3 +103,12 @@ everyOther (a ∷ b ∷ more) = a ∷ everyOther more
 
 unfoldable pub networkOfArcs : ℕ → List ArcRead → Network
 networkOfArcs nodes arcs = network nodes (map (λ a. a .from) (everyOther arcs)) (map (λ a. a .to) (everyOther arcs)) (map (λ a. a .weight) (everyOther arcs))
+
+-- the other way round: every arc, and behind it the same turned round
+unfoldable pub bothWays : List ArcRead → List ArcRead
+bothWays [] = []
+bothWays (a ∷ more) = a ∷ turned a ∷ bothWays more
+
+-- the arcs of edges that are given by their first nodes, second nodes and lengths
+unfoldable pub arcsOf : List ℕ → List ℕ → List ℕ → List ArcRead
+arcsOf firsts seconds lengths = bothWays (beside arc firsts seconds lengths)

@@ -1,14 +1,22 @@
--- Where the first line of what is left of a text ends, and where the next one begins.
-use mathlib.Core.List.{List, _∷_}
-use mathlib.Core.Path.{_≡_}
-use Prim.Native.Nat.{ℕ, _+_, _≤_, min}
-use lib.ListN.{length, take, drop}
+-- The first line of what is left of a text: where it ends, and where the next one begins.
+use Prim.Native.Nat.{ℕ, _+_, min}
+use mathlib.Core.List.{List}
+use lib.ListN.{length}
+use Rattle.text.specs.Lines.{lineFeed, carriageReturn}
+use Rattle.text.specs.Places.{firstAt, pairAt}
+use Rattle.text.specs.declared.lines.Line.{Line}
 
--- `lines` says what the lines of a text are, and a line end has so many bytes, which the last line may lack; of an empty rest both
--- places are 0
-pub record NextLine (lines : List ℕ → List (List ℕ)) (width : ℕ) (rest : List ℕ) (end next : ℕ) : Type 0 where
-  pub parts : 1 ≤ length rest → lines rest ≡ take end rest ∷ lines (drop next rest)
-  pub behind-end : next ≡ min (end + width) (length rest)
-  pub onward : 1 ≤ length rest → 1 ≤ next
-  pub ordered : end ≤ next
-  pub inside : next ≤ length rest
+abbrev pub line : ℕ → ℕ → Line
+line end next = record { end = end; next = next }
+
+-- a line that ends at a byte, in front of a line end of so many bytes, which the last line may lack
+unfoldable pub lineTo : ℕ → ℕ → List ℕ → Line
+lineTo end width rest = line end (min (end + width) (length rest))
+
+-- ended by a line feed, or by the text's end
+unfoldable pub feedLine : List ℕ → Line
+feedLine rest = lineTo (firstAt lineFeed rest) 1 rest
+
+-- ended by a carriage return and a line feed, or by the text's end
+unfoldable pub csvLine : List ℕ → Line
+csvLine rest = lineTo (pairAt carriageReturn lineFeed rest) 2 rest

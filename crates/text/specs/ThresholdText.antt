@@ -6,8 +6,7 @@ use lib.Dec.{ltb}
 use lib.ListN.{length}
 use Rattle.model.specs.Limits.{maxThresholds}
 use Rattle.model.specs.Refusal.{badThresholds, notRising}
-use Rattle.text.specs.EventText.{comma}
-use Rattle.text.specs.Fields.{fields, sameBytes, numbersOf}
+use Rattle.text.specs.Fields.{comma, fields, sameBytes, numbersOf}
 use Rattle.text.specs.declared.fields.Numbers.{Numbers}
 use Rattle.text.specs.declared.fields.Numbers.the-variants.{Nothing, One, Two, Three}
 use Rattle.text.specs.Reading.{Step, taken, refused, Outcome, read, refusedAt, readLines, require, noForm, noHeader}

@@ -1,6 +1,6 @@
 // The lines of what is left of a text, one at a time.
-ghost use Rattle.text.specs.Lines.{feedLines, csvLines};
-ghost use Rattle.text.specs.NextLine.{NextLine};
+ghost use mathlib.Core.Path.{_≡_};
+ghost use Rattle.text.specs.NextLine.{feedLine, csvLine};
 use crate::search::first_at;
 use crate::search::pair_at;
 
@@ -12,7 +12,7 @@ pub struct Line {
 
 // Lines ended by a line feed.
 pub fn feed_line(rest: &[u8]) -> Line
-    ensures { λ r. ⌜ NextLine feedLines 1 (now (rest .entry)) (r .end) (r .next) ⌝ }
+    ensures { λ r. ⌜ r ≡ feedLine (now (rest .entry)) ⌝ }
 {
     let end = first_at(b'\n', rest);
     if rest.len() <= end {
@@ -23,7 +23,7 @@ pub fn feed_line(rest: &[u8]) -> Line
 
 // Lines ended by a carriage return and a line feed.
 pub fn csv_line(rest: &[u8]) -> Line
-    ensures { λ r. ⌜ NextLine csvLines 2 (now (rest .entry)) (r .end) (r .next) ⌝ }
+    ensures { λ r. ⌜ r ≡ csvLine (now (rest .entry)) ⌝ }
 {
     let end = pair_at(b'\r', b'\n', rest);
     if rest.len() <= end {

@@ -26,7 +26,7 @@ use Rattle.reading.specs.Answers.{checkOf}
 use Rattle.reading.proofs.Laws.Answers.{list-read}
 use Rattle.reading.proofs.Laws.Kept.{all-kept}
 use Rattle.reading.proofs.Require.{passed}
-use Rattle.threshold_reader.specs.Answers.{textThresholds, thresholdTextCheck}
+use Rattle.threshold_reader.specs.Answers.{textThresholds, thresholdFileCheck}
 use Rattle.threshold_reader.proofs.ThresholdSteps.{above-some}
 
 -- not too many, and each above the one before it
@@ -104,10 +104,9 @@ rising-pass xs g one =
     thresholds-accepts xs
     (record { some = one; few = g .few; rising = λ k h. ltb-true (getD xs k 0) (getD xs (suc k) 0) (g .above (suc k) (omega arith) h) })
 
-pub thresholds-pass : (bytes answers : List ℕ) → thresholdTextCheck bytes answers ≡ Accepted → thresholdsCheck (textThresholds bytes) ≡ Accepted
-unfolding thresholdTextCheck textThresholds
-thresholds-pass bytes answers e =
-    let one = both-accepted (lengthCheck bytes) _ e .1 in
-    let two = both-accepted (checkOf (thresholdLines (csvLines bytes))) _ one in
-    let all = read-rising (csvLines bytes) (textThresholds bytes) (list-read _ (two .0)) in
+pub thresholds-pass : (bytes : List ℕ) → thresholdFileCheck bytes ≡ Accepted → thresholdsCheck (textThresholds bytes) ≡ Accepted
+unfolding thresholdFileCheck textThresholds
+thresholds-pass bytes e =
+    let lines = both-accepted (lengthCheck bytes) _ e .1 in
+    let all = read-rising (csvLines bytes) (textThresholds bytes) (list-read _ lines) in
     rising-pass (textThresholds bytes) (all .0) (all .1)

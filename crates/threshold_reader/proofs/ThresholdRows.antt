@@ -12,12 +12,13 @@ use Rattle.model.specs.Limits.{maxThresholds}
 use Rattle.model.specs.Refusal.{badThresholds}
 use Rattle.text.specs.Fields.{sameBytes}
 use Rattle.text.specs.Lines.{csvLines}
-use Rattle.text.specs.NextLine.{NextLine}
+use Rattle.text.proofs.Laws.Lines.{NextLine}
 use Rattle.text.specs.Reading.{taken, refused, read, refusedAt, readLines, require, noHeader}
 use Rattle.text.specs.ThresholdText.{ThresholdState, before-header, values, takeThreshold, takeNumber, thresholdStep, thresholdEnd, thresholdLines, thresholdHeader}
 use Rattle.text.specs.declared.fields.Numbers.{Numbers}
 use Rattle.text.specs.declared.fields.Numbers.the-variants.{Nothing, One, Two, Three}
-use Rattle.reading.specs.Header.{isHeaded, RowsAt}
+use Rattle.reading.specs.Header.{isHeaded}
+use Rattle.reading.proofs.Headed.{RowsAt}
 use Rattle.reading.specs.Answers.{entries}
 use Rattle.reading.specs.declared.answers.ReadList.{ReadList}
 use Rattle.reading.specs.declared.answers.ReadList.the-variants as list-answer
@@ -46,7 +47,7 @@ pub rows-begin : (rows list : List ℕ) → maxThresholds ≤ length list → Th
 rows-begin rows list room = record { few = omega arith; room = room; progress = begins csvLines thresholdStep 2 (values []) rows }
 
 -- A row, from what a line's step answers.
-module _ {rows list list′ : List ℕ} {at count end onward : ℕ} {r : LineRead} (t : ThresholdsSoFar rows list at count) (h : at < length rows) (n : NextLine csvLines 2 (rest rows at) end onward) (e : thresholdStep (values (take count list)) (take end (rest rows at)) ≡ thresholdsAfter r count list′) where
+module _ {rows list list′ : List ℕ} {at count end onward : ℕ} {r : LineRead} (t : ThresholdsSoFar rows list at count) (h : at < length rows) (n : NextLine csvLines (rest rows at) end onward) (e : thresholdStep (values (take count list)) (take end (rest rows at)) ≡ thresholdsAfter r count list′) where
   -- it is taken
   pub row-taken : r ≡ line-answer.Taken → length list′ ≡ length list → ThresholdsSoFar rows list′ (at + onward) (count + 1)
   unfolding thresholdsAfter thresholdStep

@@ -17,10 +17,13 @@ use Rattle.reading.specs.declared.answers.ReadList.{ReadList}
 unfoldable pub textThresholds : List ℕ → List ℕ
 textThresholds bytes = listIn (thresholdLines (csvLines bytes))
 
+-- the text alone: 1, then the first bad line or what is missing at the end
+unfoldable pub thresholdFileCheck : List ℕ → Check
+thresholdFileCheck bytes = orElse (lengthCheck bytes) (checkOf (thresholdLines (csvLines bytes)))
+
+-- the text, then 2
 unfoldable pub thresholdTextCheck : List ℕ → List ℕ → Check
-thresholdTextCheck bytes answers =
-    orElse (lengthCheck bytes)
-    (orElse (checkOf (thresholdLines (csvLines bytes))) (roomCheck (length (textThresholds bytes)) answers))
+thresholdTextCheck bytes answers = orElse (thresholdFileCheck bytes) (roomCheck (length (textThresholds bytes)) answers)
 
 -- the promise: the answer, and the answer list before and after
 pub record ThresholdsRead (bytes thresholds : List ℕ) (r : ReadList) (thresholds′ : List ℕ) : Type 0 where

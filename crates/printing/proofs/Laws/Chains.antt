@@ -4,7 +4,10 @@ use mathlib.Core.List.{List, [], _∷_, _++_}
 use mathlib.Core.Path.{_≡_}
 use Prim.Native.Nat.{ℕ}
 use Rattle.model.specs.Envelope.{Envelope}
-use Rattle.printing.specs.Bytes.{digits, comma, lineEnd, span, row, refusedWord, refusalLine}
+use Rattle.text.specs.Digits.{digits}
+use Rattle.text.specs.Fields.{comma}
+use Rattle.text.specs.Lines.{lineEnd}
+use Rattle.printing.specs.Bytes.{span, row, refusedWord, refusalLine}
 use Rattle.printing.specs.Writing.{Room, Put, envelopeIf}
 use Rattle.printing.proofs.Laws.Writing.{Writing, begin, step, last, room-next, room-last}
 

@@ -8,8 +8,10 @@ use borrow.Author.Tests.{le-leb, lt-leb, leb-true, leb-false}
 use lib.Dec.{leb}
 use lib.ListN.{length, length-append}
 use Rattle.model.specs.Envelope.{Envelope, no-value, between}
-use Rattle.printing.specs.Bytes.{digits, comma, span, row, refusalLine}
-use Rattle.printing.proofs.Laws.Digits.{digits-few}
+use Rattle.text.specs.Digits.{digits}
+use Rattle.text.specs.Fields.{comma}
+use Rattle.printing.specs.Bytes.{span, row, refusalLine}
+use Rattle.text.proofs.Laws.Digits.{digits-few}
 
 -- what fits behind the first a bytes
 pub fits-behind : (a b room : ℕ) → a ≤ room → leb b (room - a) ≡ leb (a + b) room

@@ -1,73 +1,57 @@
--- In lists that have room for every text the readers never refuse for want of room: their checks are those of the files.
+-- In lists that have room for every text the readers never refuse for want of room: what they answer is the check of the text alone.
 use mathlib.Core.List.{List}
-use mathlib.Core.Path.{_≡_, refl, ap, _∙_}
+use mathlib.Core.Path.{_≡_, refl}
 use Prim.Native.Nat.{ℕ, _≤_}
 use native.Mathlib.Omega.{arith}
-use lib.ListN.{length}
-use Rattle.model.specs.Checks.{networkCheck, roomCheck}
+use lib.ListN.{length, length-map}
 use Rattle.model.specs.Limits.{maxEdges, maxEvents, maxThresholds}
-use Rattle.model.specs.Network.{Network}
+use Rattle.model.specs.Network.{Network, edges}
 use Rattle.model.specs.Refusal.{orElse}
 use Rattle.model.specs.declared.check.Check.{Check}
 use Rattle.model.specs.declared.check.Check.the-variants.{Accepted, Refused}
 use Rattle.model.proofs.Laws.CheckParts.{room-accepts}
 use Rattle.model.proofs.Laws.Checks as model
-use Rattle.model.proofs.Laws.Refusal.{both-accept, or-else-next}
-use Rattle.reading.specs.Answers.{checkOf}
-use Rattle.network_reader.specs.Answers.{textNetwork, networkTextCheck}
-use Rattle.event_reader.specs.Answers.{textRows, eventTextCheck}
-use Rattle.threshold_reader.specs.Answers.{textThresholds, thresholdTextCheck}
-use Rattle.reading.specs.Parallel.{Level}
-use Rattle.reading.proofs.Laws.Answers.{list-read}
-use Rattle.event_reader.proofs.Laws.{read-good}
-use Rattle.network_reader.proofs.Laws.{lines-pass}
-use Rattle.threshold_reader.proofs.Laws.{read-rising}
-use Rattle.text.specs.EventText.{eventLines}
-use Rattle.text.specs.Lines.{feedLines, csvLines}
-use Rattle.text.specs.NetworkText.{networkLines}
-use Rattle.text.specs.Reading.{lengthCheck}
-use Rattle.text.specs.ThresholdText.{thresholdLines}
-use Rattle.report.specs.Report.{networkFileCheck, reportsFileCheck, thresholdsFileCheck}
+use Rattle.reading.specs.Answers.{roomsCheck}
+use Rattle.reading.proofs.Laws.Answers.{rooms-accept}
+use Rattle.text.specs.EventText.{Row}
+use Rattle.text.specs.Parallel.{Level}
+use Rattle.network_reader.specs.Answers.{textNetwork, networkFileCheck, networkTextCheck}
+use Rattle.event_reader.specs.Answers.{textRows, eventFileCheck, eventTextCheck}
+use Rattle.threshold_reader.specs.Answers.{textThresholds, thresholdFileCheck, thresholdTextCheck}
+use Rattle.network_reader.proofs.Laws.{network-passes}
+use Rattle.event_reader.proofs.Laws.{events-pass}
+use Rattle.threshold_reader.proofs.Laws.{thresholds-pass}
 
--- a last check that accepts wherever those before it do
-last-of-two : (a b c : Check) → (b ≡ Accepted → c ≡ Accepted) → orElse a (orElse b c) ≡ orElse a b
+-- a last check that accepts wherever the one before it does
+last-accepts : (a b : Check) → (a ≡ Accepted → b ≡ Accepted) → orElse a b ≡ a
 unfolding orElse
-last-of-two Accepted Accepted c h = h refl
-last-of-two Accepted (Refused n p) c h = refl
-last-of-two (Refused n p) b c h = refl
+last-accepts Accepted b h = h refl
+last-accepts (Refused n p) b h = refl
 
-last-of-three : (a b c d : Check) → (b ≡ Accepted → d ≡ Accepted) → orElse a (orElse b (orElse c d)) ≡ orElse a (orElse b c)
-unfolding orElse
-last-of-three Accepted Accepted Accepted d h = h refl
-last-of-three Accepted Accepted (Refused n p) d h = refl
-last-of-three Accepted (Refused n p) c d h = refl
-last-of-three (Refused n p) b c d h = refl
+rooms : (n most : ℕ) (xs ys zs : List ℕ) → n ≤ most → Level most xs ys zs → roomsCheck n xs ys zs ≡ Accepted
+rooms n most xs ys zs h level = rooms-accept n xs ys zs (omega (arith, level .one)) (omega (arith, level .two)) (omega (arith, level .three))
 
--- room for so many entries
-room : (n most : ℕ) (answers : List ℕ) → n ≤ most → length answers ≡ most → roomCheck n answers ≡ Accepted
-room n most answers h e =
-    let fits : n ≤ length answers = omega arith in
-    room-accepts n answers fits
+pub thresholds-few : (bytes : List ℕ) → thresholdFileCheck bytes ≡ Accepted → length (textThresholds bytes) ≤ maxThresholds
+thresholds-few bytes e = model.thresholds-accepted _ (thresholds-pass bytes e) .few
 
-rooms : (n most : ℕ) (xs ys zs : List ℕ) → n ≤ most → Level most xs ys zs → orElse (roomCheck n xs) (orElse (roomCheck n ys) (roomCheck n zs)) ≡ Accepted
-rooms n most xs ys zs h level =
-    both-accept (room n most xs h (level .one)) (both-accept (room n most ys h (level .two)) (room n most zs h (level .three)))
+pub rows-few : (net : Network) (bytes : List ℕ) → eventFileCheck net bytes ≡ Accepted → length (textRows net bytes) ≤ maxEvents
+rows-few net bytes e =
+    omega (arith, length-map (textRows net bytes) (λ (r : Row). r .edge), model.sets-accepted _ _ _ _ (events-pass net bytes e) .are-events .few)
 
-pub thresholds-file : (bytes answers : List ℕ) → length answers ≡ maxThresholds → thresholdTextCheck bytes answers ≡ thresholdsFileCheck bytes
-unfolding thresholdTextCheck thresholdsFileCheck textThresholds
+pub edges-few : (bytes : List ℕ) → networkFileCheck bytes ≡ Accepted → edges (textNetwork bytes) ≤ maxEdges
+edges-few bytes e = model.network-accepted _ (network-passes bytes e) .edges-to
+
+pub thresholds-file : (bytes answers : List ℕ) → length answers ≡ maxThresholds → thresholdTextCheck bytes answers ≡ thresholdFileCheck bytes
+unfolding thresholdTextCheck
 thresholds-file bytes answers long =
-    last-of-two (lengthCheck bytes) (checkOf (thresholdLines (csvLines bytes))) _
-    (λ e. room _ maxThresholds answers (read-rising (csvLines bytes) _ (list-read (thresholdLines (csvLines bytes)) e) .0 .few) long)
+    last-accepts (thresholdFileCheck bytes) _ (λ e. room-accepts _ answers (omega (arith, long, thresholds-few bytes e)))
 
-pub reports-file : (net : Network) (bytes sets es xs : List ℕ) → networkCheck net ≡ Accepted → Level maxEvents sets es xs → eventTextCheck net bytes sets es xs ≡ reportsFileCheck net bytes
-unfolding eventTextCheck reportsFileCheck textRows
-reports-file net bytes sets es xs pass level =
-    ap (orElse (lengthCheck bytes)) (or-else-next _ pass)
-    ∙ last-of-three (lengthCheck bytes) (checkOf (eventLines net (csvLines bytes))) _ _
-    (λ e. rooms _ maxEvents sets es xs (read-good net (csvLines bytes) _ (list-read (eventLines net (csvLines bytes)) e) .few) level)
+pub reports-file : (net : Network) (bytes sets es xs : List ℕ) → Level maxEvents sets es xs → eventTextCheck net bytes sets es xs ≡ eventFileCheck net bytes
+unfolding eventTextCheck
+reports-file net bytes sets es xs level =
+    last-accepts (eventFileCheck net bytes) _ (λ e. rooms _ maxEvents sets es xs (rows-few net bytes e) level)
 
 pub network-file : (bytes firsts seconds lengths : List ℕ) → Level maxEdges firsts seconds lengths → networkTextCheck bytes firsts seconds lengths ≡ networkFileCheck bytes
-unfolding networkTextCheck networkFileCheck textNetwork
+unfolding networkTextCheck
 network-file bytes firsts seconds lengths level =
-    last-of-two (lengthCheck bytes) (checkOf (networkLines (feedLines bytes))) _
-    (λ e. rooms _ maxEdges firsts seconds lengths (model.network-accepted _ (lines-pass (feedLines bytes) e) .edges-to) level)
+    last-accepts (networkFileCheck bytes) _ (λ e. rooms _ maxEdges firsts seconds lengths (edges-few bytes e) level)

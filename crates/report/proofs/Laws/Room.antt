@@ -16,7 +16,7 @@ use Rattle.printing.specs.Answers.{printedAnswer}
 use Rattle.printing.specs.Bytes.{row}
 use Rattle.printing.specs.declared.answers.Printed.{Printed}
 use Rattle.printing.specs.declared.answers.Printed.the-variants as printed
-use Rattle.printing.proofs.Laws.Digits.{digits-few}
+use Rattle.text.proofs.Laws.Digits.{digits-few}
 use Rattle.printing.proofs.Laws.Sizes.{span-few, row-length, refusal-length}
 use Rattle.reading.specs.Answers.{listIn}
 use Rattle.threshold_reader.specs.Answers.{textThresholds}

@@ -21,7 +21,7 @@ use Rattle.printing.specs.Answers.{TablePrinted, tableBytes}
 use Rattle.printing.specs.declared.answers.Printed.{Printed}
 use Rattle.printing.proofs.Laws.Verdict.{room-decides}
 use Rattle.reading.proofs.Laws.Answers.{front-is}
-use Rattle.reading.specs.Parallel.{Level}
+use Rattle.text.specs.Parallel.{Level}
 use Rattle.table.proofs.Laws.Columns.{spanned-most}
 use Rattle.table.specs.Table.{TableAnswered, leasts, greatests, spansCheck, tableAnswer, tableCheck}
 use Rattle.table.specs.declared.answers.Table.{Table}

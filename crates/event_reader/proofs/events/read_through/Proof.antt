@@ -1,6 +1,6 @@
 use mathlib.Core.Path.{sym, _∙_}
 use lib.Seq.{length-take-le}
-use Rattle.reading.proofs.Parallel.{level-kept}
+use Rattle.text.proofs.Laws.Parallel.{level-kept}
 use Rattle.event_reader.proofs.WholeEvents.{rows-few, lent-refused, lines-refused, rows-answered}
 use native.Mathlib.Omega.{arith}
 use borrow.Author.Needs.{needs}

@@ -1,9 +1,10 @@
 use mathlib.Core.Path.{sym, _∙_}
 use Prim.Native.Nat.{_-_}
 use lib.ListN.{length}
-use Rattle.reading.proofs.Parallel.{level-kept}
+use Rattle.text.proofs.Laws.Parallel.{level-kept}
 use Rattle.reading.proofs.Progress.{line-long, less-left}
 use Rattle.event_reader.proofs.EventRows.{RowsSoFar, rows-begin, one-taken, one-refused, rows-end}
+use Rattle.text.proofs.Laws.Lines.{csv-next}
 use borrow.Author.Needs.{needs}
 use native.Mathlib.Omega.{arith}
 use Rattle.event_reader.proofs.events.take_rows.Statement.{statement}
@@ -31,7 +32,7 @@ csv-line-requires : tie.Need-csv-line-requires Inv-loop μ-loop
 csv-line-requires c κs = search needs
 
 slice-aggregate-take-line : tie.Need-slice-aggregate-take-line Inv-loop μ-loop
-slice-aggregate-take-line c = line-long (c .before .before .before .before .loop .inv .progress) (c .before .before .before .loop-test .taken) (c .before .csv-line .ensures)
+slice-aggregate-take-line c = line-long (c .before .before .before .before .loop .inv .progress) (c .before .before .before .loop-test .taken) (csv-next (c .before .csv-line .ensures))
 
 take-line-requires : tie.Need-take-line-requires Inv-loop μ-loop
 take-line-requires c κs = (c .before .before .before .before .before .before .before .loop .inv .few, c .before .before .before .before .before .before .before .loop .inv .level)
@@ -52,22 +53,22 @@ same-length-3 : tie.Need-same-length-3 Inv-loop μ-loop
 same-length-3 c = c .before .before .before .before .before .before .before .before .before .take-line .kept .1 .1 .1 .1 .1 .0 ∙ c .before .before .before .before .before .before .before .before .before .before .before .before .before .before .before .before .before .loop .inv .level .three ∙ sym (c .before .before .before .before .before .before .before .before .before .before .before .before .before .before .before .before .before .before .before .before .before .before .before .pre .three)
 
 returns : tie.Need-returns Inv-loop μ-loop
-returns c = one-refused (c .before .before .before .before .before .before .before .before .before .before .before .before .before .before .before .before .before .loop .inv) (c .before .before .before .before .before .before .before .before .before .before .before .before .before .before .before .before .loop-test .taken) (c .before .before .before .before .before .before .before .before .before .before .before .before .before .before .csv-line .ensures) (c .before .before .before .before .before .before .before .before .before .take-line .ensures) (c .before .number .given .1)
+returns c = one-refused (c .before .before .before .before .before .before .before .before .before .before .before .before .before .before .before .before .before .loop .inv) (c .before .before .before .before .before .before .before .before .before .before .before .before .before .before .before .before .loop-test .taken) (csv-next (c .before .before .before .before .before .before .before .before .before .before .before .before .before .before .csv-line .ensures)) (c .before .before .before .before .before .before .before .before .before .take-line .ensures) (c .before .number .given .1)
 
 enum-told : tie.Need-enum-told Inv-loop μ-loop
 enum-told c = search needs
 
 add-at : tie.Need-add-at Inv-loop μ-loop
-add-at c = search needs
+add-at c = omega (arith, csv-next (c .before .before .before .before .before .before .before .before .before .before .before .before .before .before .csv-line .ensures) .inside)
 
 add-count : tie.Need-add-count Inv-loop μ-loop
 add-count c = omega (arith, c .before .before .before .before .before .before .before .before .before .before .before .before .before .before .before .before .before .loop .inv .few)
 
 loop-less : tie.Need-loop-less Inv-loop μ-loop
-loop-less c = less-left (c .before .before .before .before .before .before .before .before .before .before .before .before .before .before .before .before .before .loop .inv .progress) (c .before .before .before .before .before .before .before .before .before .before .before .before .before .before .before .before .loop-test .taken) (c .before .before .before .before .before .before .before .before .before .before .before .before .before .before .csv-line .ensures)
+loop-less c = less-left (c .before .before .before .before .before .before .before .before .before .before .before .before .before .before .before .before .before .loop .inv .progress) (c .before .before .before .before .before .before .before .before .before .before .before .before .before .before .before .before .loop-test .taken) (csv-next (c .before .before .before .before .before .before .before .before .before .before .before .before .before .before .csv-line .ensures))
 
 loop-again : tie.Need-loop-again Inv-loop μ-loop
-loop-again c = one-taken (c .before .before .before .before .before .before .before .before .before .before .before .before .before .before .before .before .before .loop .inv) (c .before .before .before .before .before .before .before .before .before .before .before .before .before .before .before .before .loop-test .taken) (c .before .before .before .before .before .before .before .before .before .before .before .before .before .before .csv-line .ensures) (c .before .before .before .before .before .before .before .before .before .take-line .ensures) (c .before .enum-told .given .1)
+loop-again c = one-taken (c .before .before .before .before .before .before .before .before .before .before .before .before .before .before .before .before .before .loop .inv) (c .before .before .before .before .before .before .before .before .before .before .before .before .before .before .before .before .loop-test .taken) (csv-next (c .before .before .before .before .before .before .before .before .before .before .before .before .before .before .csv-line .ensures)) (c .before .before .before .before .before .before .before .before .before .take-line .ensures) (c .before .enum-told .given .1)
     (level-kept (c .before .before .before .before .before .before .before .before .before .before .before .before .before .before .before .before .before .loop .inv .level) (c .before .before .before .before .before .before .before .before .before .take-line .kept .1 .1 .1 .0) (c .before .before .before .before .before .before .before .before .before .take-line .kept .1 .1 .1 .1 .0) (c .before .before .before .before .before .before .before .before .before .take-line .kept .1 .1 .1 .1 .1 .0))
 
 same-length-4 : tie.Need-same-length-4 Inv-loop μ-loop

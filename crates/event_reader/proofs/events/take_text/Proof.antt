@@ -1,4 +1,5 @@
 use Rattle.event_reader.proofs.EventRows.{text-refused, text-taken}
+use Rattle.reading.proofs.Headed.{rows-found, none-found}
 use borrow.Author.Needs.{needs}
 use Rattle.event_reader.proofs.events.take_text.Statement.{statement}
 use Rattle.event_reader.proofs.events.take_text.Tie as tie
@@ -16,10 +17,10 @@ enum-known-start : tie.Need-enum-known-start
 enum-known-start c = search needs
 
 sub-take-rows : tie.Need-sub-take-rows
-sub-take-rows c = c .before .before .before .read-header .ensures .there _ (c .before .start .given .1) .within
+sub-take-rows c = rows-found (c .before .before .before .read-header .ensures) (c .before .start .given .1) .within
 
 part-take-rows-start : tie.Need-part-take-rows-start
-part-take-rows-start c = c .before .before .before .read-header .ensures .there _ (c .before .start .given .1) .within
+part-take-rows-start c = rows-found (c .before .before .before .read-header .ensures) (c .before .start .given .1) .within
 
 part-take-rows-end : tie.Need-part-take-rows-end
 part-take-rows-end c = search needs
@@ -28,7 +29,7 @@ take-rows-requires : tie.Need-take-rows-requires
 take-rows-requires c κs = search needs
 
 returns : tie.Need-returns
-returns c = text-refused _ _ _ _ _ (c .before .before .read-header .ensures .missing (c .enum-told .given .1))
+returns c = text-refused _ _ _ _ _ (none-found _ _ (c .before .before .read-header .ensures) (c .enum-told .given .1))
 
 same-length : tie.Need-same-length
 same-length c = search needs
@@ -40,7 +41,7 @@ same-length-3 : tie.Need-same-length-3
 same-length-3 c = search needs
 
 returns-2 : tie.Need-returns-2
-returns-2 c = text-taken (c .before .before .before .before .before .before .before .before .before .before .before .before .before .before .read-header .ensures .there _ (c .before .before .before .before .before .before .before .before .before .before .before .before .start .given .1)) (c .before .before .before .before .before .before .take-rows .ensures)
+returns-2 c = text-taken (rows-found (c .before .before .before .before .before .before .before .before .before .before .before .before .before .before .read-header .ensures) (c .before .before .before .before .before .before .before .before .before .before .before .before .start .given .1)) (c .before .before .before .before .before .before .take-rows .ensures)
 
 pub take-text-spec : {M : Type 1} → statement M
 take-text-spec =

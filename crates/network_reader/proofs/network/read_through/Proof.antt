@@ -1,6 +1,6 @@
 use mathlib.Core.Path.{sym, _∙_}
 use lib.Seq.{length-take-le}
-use Rattle.reading.proofs.Parallel.{level-kept, level-parts}
+use Rattle.text.proofs.Laws.Parallel.{level-kept, level-parts}
 use Rattle.network_reader.proofs.WholeNetwork.{edges-few, network-too-long, network-bad, network-answered}
 use native.Mathlib.Omega.{arith}
 use borrow.Author.Needs.{needs}

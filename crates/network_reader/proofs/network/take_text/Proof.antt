@@ -1,9 +1,10 @@
 use mathlib.Core.Path.{sym, _∙_}
 use Prim.Native.Nat.{_-_}
 use lib.ListN.{length}
-use Rattle.reading.proofs.Parallel.{level-kept}
+use Rattle.text.proofs.Laws.Parallel.{level-kept}
 use Rattle.reading.proofs.Progress.{line-long, less-left}
 use Rattle.network_reader.proofs.NetworkRows.{LinesSoFar, lines-begin, one-taken, one-refused, lines-end}
+use Rattle.text.proofs.Laws.Lines.{feed-next}
 use borrow.Author.Needs.{needs}
 use native.Mathlib.Omega.{arith}
 use Rattle.network_reader.proofs.network.take_text.Statement.{statement}
@@ -31,7 +32,7 @@ feed-line-requires : tie.Need-feed-line-requires Inv-loop μ-loop
 feed-line-requires c κs = search needs
 
 slice-aggregate-take-line : tie.Need-slice-aggregate-take-line Inv-loop μ-loop
-slice-aggregate-take-line c = line-long (c .before .before .before .before .loop .inv .progress) (c .before .before .before .loop-test .taken) (c .before .feed-line .ensures)
+slice-aggregate-take-line c = line-long (c .before .before .before .before .loop .inv .progress) (c .before .before .before .loop-test .taken) (feed-next (c .before .feed-line .ensures))
 
 take-line-requires : tie.Need-take-line-requires Inv-loop μ-loop
 take-line-requires c κs = (c .before .before .before .before .before .before .before .loop .inv .sound, c .before .before .before .before .before .before .before .loop .inv .level)
@@ -49,22 +50,22 @@ same-length-3 : tie.Need-same-length-3 Inv-loop μ-loop
 same-length-3 c = c .before .before .before .before .before .before .before .before .before .take-line .kept .1 .1 .1 .1 .0 ∙ c .before .before .before .before .before .before .before .before .before .before .before .before .before .before .before .before .before .loop .inv .level .three ∙ sym (c .before .before .before .before .before .before .before .before .before .before .before .before .before .before .before .before .before .before .before .before .before .before .pre .three)
 
 returns : tie.Need-returns Inv-loop μ-loop
-returns c = one-refused (c .before .before .before .before .before .before .before .before .before .before .before .before .before .before .before .before .before .loop .inv) (c .before .before .before .before .before .before .before .before .before .before .before .before .before .before .before .before .loop-test .taken) (c .before .before .before .before .before .before .before .before .before .before .before .before .before .before .feed-line .ensures) (c .before .before .before .before .before .before .before .before .before .take-line .ensures) (c .before .number .given .1)
+returns c = one-refused (c .before .before .before .before .before .before .before .before .before .before .before .before .before .before .before .before .before .loop .inv) (c .before .before .before .before .before .before .before .before .before .before .before .before .before .before .before .before .loop-test .taken) (feed-next (c .before .before .before .before .before .before .before .before .before .before .before .before .before .before .feed-line .ensures)) (c .before .before .before .before .before .before .before .before .before .take-line .ensures) (c .before .number .given .1)
 
 enum-known-next : tie.Need-enum-known-next Inv-loop μ-loop
 enum-known-next c = search needs
 
 add-at : tie.Need-add-at Inv-loop μ-loop
-add-at c = search needs
+add-at c = omega (arith, feed-next (c .before .before .before .before .before .before .before .before .before .before .before .before .before .before .before .feed-line .ensures) .inside)
 
 add-place : tie.Need-add-place Inv-loop μ-loop
 add-place c = omega (arith, c .before .before .before .before .before .before .before .before .before .before .before .before .before .before .before .before .before .before .loop .inv .progress .small, c .before .before .before .before .before .before .before .before .before .before .before .before .before .before .before .before .before .before .loop .inv .progress .within)
 
 loop-less : tie.Need-loop-less Inv-loop μ-loop
-loop-less c = less-left (c .before .before .before .before .before .before .before .before .before .before .before .before .before .before .before .before .before .before .loop .inv .progress) (c .before .before .before .before .before .before .before .before .before .before .before .before .before .before .before .before .before .loop-test .taken) (c .before .before .before .before .before .before .before .before .before .before .before .before .before .before .before .feed-line .ensures)
+loop-less c = less-left (c .before .before .before .before .before .before .before .before .before .before .before .before .before .before .before .before .before .before .loop .inv .progress) (c .before .before .before .before .before .before .before .before .before .before .before .before .before .before .before .before .before .loop-test .taken) (feed-next (c .before .before .before .before .before .before .before .before .before .before .before .before .before .before .before .feed-line .ensures))
 
 loop-again : tie.Need-loop-again Inv-loop μ-loop
-loop-again c = one-taken (c .before .before .before .before .before .before .before .before .before .before .before .before .before .before .before .before .before .before .loop .inv) (c .before .before .before .before .before .before .before .before .before .before .before .before .before .before .before .before .before .loop-test .taken) (c .before .before .before .before .before .before .before .before .before .before .before .before .before .before .before .feed-line .ensures) (c .before .before .before .before .before .before .before .before .before .before .take-line .ensures) (c .before .before .next .given .1)
+loop-again c = one-taken (c .before .before .before .before .before .before .before .before .before .before .before .before .before .before .before .before .before .before .loop .inv) (c .before .before .before .before .before .before .before .before .before .before .before .before .before .before .before .before .before .loop-test .taken) (feed-next (c .before .before .before .before .before .before .before .before .before .before .before .before .before .before .before .feed-line .ensures)) (c .before .before .before .before .before .before .before .before .before .before .take-line .ensures) (c .before .before .next .given .1)
     (level-kept (c .before .before .before .before .before .before .before .before .before .before .before .before .before .before .before .before .before .before .loop .inv .level) (c .before .before .before .before .before .before .before .before .before .before .take-line .kept .1 .1 .0) (c .before .before .before .before .before .before .before .before .before .before .take-line .kept .1 .1 .1 .0) (c .before .before .before .before .before .before .before .before .before .before .take-line .kept .1 .1 .1 .1 .0))
 
 end-requires : tie.Need-end-requires Inv-loop μ-loop

@@ -1,6 +1,6 @@
 -- `refusal_fits` counts what stands beside the file's name.
 use native.Mathlib.Omega.{arith}
-use Rattle.printing.proofs.Laws.Digits.{digits-few}
+use Rattle.text.proofs.Laws.Digits.{digits-few}
 use Rattle.printing.proofs.Laws.Sizes.{fits-behind, too-long, refusal-length}
 use borrow.Author.Needs.{needs}
 use Rattle.printing.proofs.refusal.refusal_fits.Statement.{statement}

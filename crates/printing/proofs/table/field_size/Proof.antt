@@ -1,6 +1,6 @@
 -- A comma, and the digits.
 use native.Mathlib.Omega.{arith}
-use Rattle.printing.proofs.Laws.Digits.{digits-few}
+use Rattle.text.proofs.Laws.Digits.{digits-few}
 use borrow.Author.Needs.{needs}
 use Rattle.printing.proofs.table.field_size.Statement.{statement}
 use Rattle.printing.proofs.table.field_size.Tie as tie

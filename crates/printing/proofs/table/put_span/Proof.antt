@@ -1,7 +1,8 @@
 use Rattle.printing.proofs.Laws.Chains.{first-room, second-room, both-put, span-given, span-empty}
 -- Two fields, or two commas.
 use mathlib.Core.List.{_∷_}
-use Rattle.printing.specs.Bytes.{digits, comma}
+use Rattle.text.specs.Digits.{digits}
+use Rattle.text.specs.Fields.{comma}
 use borrow.Author.Needs.{needs}
 use Rattle.printing.proofs.table.put_span.Statement.{statement}
 use Rattle.printing.proofs.table.put_span.Tie as tie

@@ -1,6 +1,7 @@
 -- The line of names, and the rows.
 use mathlib.Core.List.{_++_}
-use Rattle.printing.specs.Bytes.{header, lineEnd}
+use Rattle.text.specs.Lines.{lineEnd}
+use Rattle.printing.specs.Bytes.{header}
 use Rattle.printing.specs.Answers.{rows, tableBytes}
 use Rattle.printing.proofs.Laws.Chains.{first-room, second-room, both-put}
 use borrow.Author.Needs.{needs}

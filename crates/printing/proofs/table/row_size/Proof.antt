@@ -1,7 +1,7 @@
 use Rattle.printing.specs.Writing.{envelopeIf}
 -- The parts of a row.
 use native.Mathlib.Omega.{arith}
-use Rattle.printing.proofs.Laws.Digits.{digits-few}
+use Rattle.text.proofs.Laws.Digits.{digits-few}
 use Rattle.printing.proofs.Laws.Sizes.{span-few, row-length}
 use borrow.Author.Needs.{needs}
 use Rattle.printing.proofs.table.row_size.Statement.{statement}

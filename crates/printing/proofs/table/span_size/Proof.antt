@@ -1,6 +1,6 @@
 -- Two fields, or two commas.
 use native.Mathlib.Omega.{arith}
-use Rattle.printing.proofs.Laws.Digits.{digits-few}
+use Rattle.text.proofs.Laws.Digits.{digits-few}
 use Rattle.printing.proofs.Laws.Sizes.{span-length}
 use Rattle.printing.specs.Bytes.{span}
 use Rattle.printing.specs.Writing.{envelopeIf}

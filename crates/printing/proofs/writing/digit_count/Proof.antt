@@ -1,6 +1,6 @@
 -- `digit_count`: one digit more each time, until one digit is left.
 use native.Mathlib.Omega.{arith}
-use Rattle.printing.proofs.Laws.Digits.{Counting, count-start, count-more, counted}
+use Rattle.text.proofs.Laws.Digits.{Counting, count-start, count-more, counted}
 use Rattle.printing.proofs.writing.digit_count.Statement.{statement}
 use Rattle.printing.proofs.writing.digit_count.Tie as tie
 

@@ -1,6 +1,7 @@
 -- `put_field` puts the comma and then the number.
 use mathlib.Core.List.{_∷_, []}
-use Rattle.printing.specs.Bytes.{digits, comma}
+use Rattle.text.specs.Digits.{digits}
+use Rattle.text.specs.Fields.{comma}
 use Rattle.printing.proofs.Laws.Writing.{begin, step, room-next, last, room-last}
 use borrow.Author.Needs.{needs}
 use Rattle.printing.proofs.writing.put_field.Statement.{statement}

@@ -2,7 +2,7 @@ use Rattle.printing.proofs.Laws.Writing.{put-part}
 -- `put_number` lends the part that its digits fill.
 use native.Mathlib.Omega.{arith}
 use Rattle.printing.specs.Writing.{Room}
-use Rattle.printing.proofs.Laws.Digits.{digits-few}
+use Rattle.text.proofs.Laws.Digits.{digits-few}
 use borrow.Author.Needs.{needs}
 use Rattle.printing.proofs.writing.put_number.Statement.{statement}
 use Rattle.printing.proofs.writing.put_number.Tie as tie

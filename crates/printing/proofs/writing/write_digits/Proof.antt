@@ -2,7 +2,7 @@
 use Prim.Native.Nat.{_-_}
 use native.Mathlib.Omega.{arith}
 use borrow.Author.Needs.{needs}
-use Rattle.printing.proofs.Laws.Digits.{Filling, fill-start, fill-more, filled}
+use Rattle.text.proofs.Laws.Digits.{Filling, fill-start, fill-more, filled}
 use Rattle.printing.proofs.writing.write_digits.Statement.{statement}
 use Rattle.printing.proofs.writing.write_digits.Tie as tie
 

@@ -2,6 +2,7 @@ use mathlib.Core.Path.{sym, _∙_}
 use native.Mathlib.Omega.{arith}
 use borrow.Author.Tests.{not-true, not-false}
 use lib.Seq.{length-take-le}
+use Rattle.text.proofs.Laws.Lines.{csv-next}
 use Rattle.reading.proofs.Headed.{no-text, header-missing, header-found}
 use borrow.Author.Needs.{needs}
 use Rattle.reading.proofs.header.read_header.Statement.{statement}
@@ -14,7 +15,7 @@ csv-line-requires : tie.Need-csv-line-requires
 csv-line-requires c κs = search needs
 
 slice-aggregate-same-bytes : tie.Need-slice-aggregate-same-bytes
-slice-aggregate-same-bytes c = sym (length-take-le _ _ (omega (arith, c .before .csv-line .ensures .ordered, c .before .csv-line .ensures .inside)))
+slice-aggregate-same-bytes c = sym (length-take-le _ _ (omega (arith, csv-next (c .before .csv-line .ensures) .ordered, csv-next (c .before .csv-line .ensures) .inside)))
 
 same-bytes-requires : tie.Need-same-bytes-requires
 same-bytes-requires c κs = search needs

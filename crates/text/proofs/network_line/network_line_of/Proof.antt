@@ -1,7 +1,8 @@
 -- `network_line_of`: the tests of the definition, in its order.
 use mathlib.Core.Path.{sym, ap, _∙_}
 use borrow.Author.Needs.{needs}
-use Rattle.text.specs.NetworkText.{space, networkLine, problemOf, arcOf}
+use Rattle.text.specs.Fields.{space}
+use Rattle.text.specs.NetworkText.{networkLine, problemOf, arcOf}
 use Rattle.text.proofs.Laws.Fields.{begins-length, numbers-from}
 use Rattle.text.proofs.network_line.network_line_of.Statement.{statement}
 use Rattle.text.proofs.network_line.network_line_of.Tie as tie

@@ -1,6 +1,7 @@
 use mathlib.Core.Path.{_≡_, refl, _∙_}
 use Prim.Native.Nat.{_-_}
 use native.Mathlib.Omega.{arith}
+use Rattle.text.proofs.Laws.Lines.{csv-next}
 use borrow.Author.Needs.{needs}
 use lib.ListN.{length}
 use Rattle.reading.proofs.Progress.{line-long, less-left}
@@ -30,7 +31,7 @@ csv-line-requires : tie.Need-csv-line-requires Inv-loop μ-loop
 csv-line-requires c κs = search needs
 
 slice-aggregate-take-line : tie.Need-slice-aggregate-take-line Inv-loop μ-loop
-slice-aggregate-take-line c = line-long (c .before .before .before .before .loop .inv .0 .progress) (c .before .before .before .loop-test .taken) (c .before .csv-line .ensures)
+slice-aggregate-take-line c = line-long (c .before .before .before .before .loop .inv .0 .progress) (c .before .before .before .loop-test .taken) (csv-next (c .before .csv-line .ensures))
 
 take-line-requires : tie.Need-take-line-requires Inv-loop μ-loop
 take-line-requires c κs = search needs
@@ -45,22 +46,22 @@ same-length : tie.Need-same-length Inv-loop μ-loop
 same-length c = c .before .before .before .before .before .take-line .kept .1 .1 .0 ∙ c .before .before .before .before .before .before .before .before .before .before .before .loop .inv .1
 
 returns : tie.Need-returns Inv-loop μ-loop
-returns c = row-refused (c .before .before .before .before .before .before .before .before .before .before .before .loop .inv .0) (c .before .before .before .before .before .before .before .before .before .before .loop-test .taken) (c .before .before .before .before .before .before .before .before .csv-line .ensures) (c .before .before .before .before .before .take-line .ensures) (c .before .number .given .1)
+returns c = row-refused (c .before .before .before .before .before .before .before .before .before .before .before .loop .inv .0) (c .before .before .before .before .before .before .before .before .before .before .loop-test .taken) (csv-next (c .before .before .before .before .before .before .before .before .csv-line .ensures)) (c .before .before .before .before .before .take-line .ensures) (c .before .number .given .1)
 
 enum-told : tie.Need-enum-told Inv-loop μ-loop
 enum-told c = search needs
 
 add-at : tie.Need-add-at Inv-loop μ-loop
-add-at c = search needs
+add-at c = omega (arith, csv-next (c .before .before .before .before .before .before .before .before .csv-line .ensures) .inside)
 
 add-count : tie.Need-add-count Inv-loop μ-loop
 add-count c = search needs
 
 loop-less : tie.Need-loop-less Inv-loop μ-loop
-loop-less c = less-left (c .before .before .before .before .before .before .before .before .before .before .before .loop .inv .0 .progress) (c .before .before .before .before .before .before .before .before .before .before .loop-test .taken) (c .before .before .before .before .before .before .before .before .csv-line .ensures)
+loop-less c = less-left (c .before .before .before .before .before .before .before .before .before .before .before .loop .inv .0 .progress) (c .before .before .before .before .before .before .before .before .before .before .loop-test .taken) (csv-next (c .before .before .before .before .before .before .before .before .csv-line .ensures))
 
 loop-again : tie.Need-loop-again Inv-loop μ-loop
-loop-again c = (row-taken (c .before .before .before .before .before .before .before .before .before .before .before .loop .inv .0) (c .before .before .before .before .before .before .before .before .before .before .loop-test .taken) (c .before .before .before .before .before .before .before .before .csv-line .ensures) (c .before .before .before .before .before .take-line .ensures) (c .before .enum-told .given .1) (c .before .before .before .before .before .take-line .kept .1 .1 .0), c .before .before .before .before .before .take-line .kept .1 .1 .0 ∙ c .before .before .before .before .before .before .before .before .before .before .before .loop .inv .1)
+loop-again c = (row-taken (c .before .before .before .before .before .before .before .before .before .before .before .loop .inv .0) (c .before .before .before .before .before .before .before .before .before .before .loop-test .taken) (csv-next (c .before .before .before .before .before .before .before .before .csv-line .ensures)) (c .before .before .before .before .before .take-line .ensures) (c .before .enum-told .given .1) (c .before .before .before .before .before .take-line .kept .1 .1 .0), c .before .before .before .before .before .take-line .kept .1 .1 .0 ∙ c .before .before .before .before .before .before .before .before .before .before .before .loop .inv .1)
 
 add-t20 : tie.Need-add-t20 Inv-loop μ-loop
 add-t20 c = search needs

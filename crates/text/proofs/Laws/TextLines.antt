@@ -6,10 +6,10 @@ use Prim.Native.Nat.{ℕ, _≤_}
 use native.Mathlib.Omega.{arith}
 use lib.ListN.{length}
 use Rattle.model.proofs.Laws.Refusal.{both-true}
 use Rattle.text.specs.Lines.{lineFeed, carriageReturn, inFront, feedLines, csvLines}
-use Rattle.printing.specs.Bytes.{lineEnd}
-use Rattle.printing.specs.Texts.{joined, lacks}
-use Rattle.printing.proofs.Laws.Lacking.{allLack, first-other}
+use Rattle.text.specs.Lines.{lineEnd}
+use Rattle.text.specs.Texts.{joined, lacks}
+use Rattle.text.proofs.Laws.Lacking.{allLack, first-other}
 
 -- the last line of a text; of no lines an empty one
 unfoldable pub lastLine : List (List ℕ) → List ℕ

@@ -6,16 +6,16 @@ use Prim.Native.Nat.{ℕ, _≤_, _<_}
 use native.Mathlib.Omega.{arith}
 use borrow.Author.Tests.{eq-eqb}
 use Rattle.model.proofs.Laws.Refusal.{both-true}
-use Rattle.text.specs.Fields.{fields, sameBytes, beginsWith, numbersOf, ofOne, ofTwo, ofThree}
+use Rattle.text.specs.Fields.{space, fields, sameBytes, beginsWith, numbersOf, ofOne, ofTwo, ofThree}
 use Rattle.text.specs.Lines.{inFront}
-use Rattle.text.specs.NetworkText.{ArcRead, networkLine, problemOf, arcOf, space}
+use Rattle.text.specs.NetworkText.{ArcRead, networkLine, problemOf, arcOf}
 use Rattle.text.specs.Numbers.{maxNumber}
 use Rattle.text.specs.declared.fields.Numbers.the-variants.{One, Two, Three}
 use Rattle.text.specs.declared.network_line.NetworkLine.the-variants.{Problem, Arc}
-use Rattle.printing.specs.Bytes.{digits}
-use Rattle.printing.specs.Texts.{parted, numbered, problemLine, arcLine, lacks}
-use Rattle.printing.proofs.Laws.Lacking.{allLack, digits-lack, map-lack, first-other}
-use Rattle.printing.proofs.Laws.Reading.{read-back}
+use Rattle.text.specs.Digits.{digits}
+use Rattle.text.specs.Texts.{parted, numbered, problemLine, arcLine, lacks}
+use Rattle.text.proofs.Laws.Lacking.{allLack, digits-lack, map-lack, first-other}
+use Rattle.text.proofs.Laws.DigitsRead.{read-back}
 
 -- a field and the separator behind it
 fields-ended : (sep : ℕ) (field rest : List ℕ) → lacks sep field ≡ true → fields sep (field ++ (sep ∷ rest)) ≡ field ∷ fields sep rest

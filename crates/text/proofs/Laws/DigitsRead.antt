@@ -9,10 +9,10 @@ use lib.Dec.{eqb}
 use lib.ListN.{length, getD, List·getD-append}
 use Rattle.model.proofs.Laws.Refusal.{true-between}
 use Rattle.model.specs.Refusal.{isBetween}
 use Rattle.text.specs.Numbers.{isDigit, allDigits, decimal, maxDigits, maxNumber, wellFormed, numberOf}
 use Rattle.text.specs.declared.number.Number.the-variants.{Value}
-use Rattle.printing.specs.Bytes.{lastDigits, digits}
-use Rattle.printing.proofs.Laws.Digits.{one-digit, more-digits, small-or-not, length-more, div-below}
+use Rattle.text.specs.Digits.{lastDigits, digits}
+use Rattle.text.proofs.Laws.Digits.{one-digit, more-digits, small-or-not, length-more, div-below}
 
 -- bytes behind bytes are all digits where both are
 all-digits-append : (xs ys : List ℕ) → allDigits (xs ++ ys) ≡ (allDigits xs && allDigits ys)
@@ -68,14 +68,15 @@ first-digit (suc (suc more)) n l h = small-or-not n
     (λ g. rw (more-digits (suc more) n g, List·getD-append (lastDigits (suc more) (n / 10)) ((48 + n % 10) ∷ []) 0 0 (some-digits more (n / 10)))
     (first-digit (suc more) (n / 10) (omega arith) (div-below n (suc more) h)))
 
-module _ (n : ℕ) (small : n ≤ maxNumber) where
-  -- 1 to 10 digits
-  digit-count : isBetween 1 maxDigits (length (digits n)) ≡ true
+-- Every number of 64 bits.
+module _ (n : ℕ) (small : n < 2 ^ 64) where
+  -- its digits stand for it
+  pub digits-worth : decimal 0 (digits n) ≡ n
   unfolding digits
-  digit-count = true-between 1 10 (length (lastDigits 20 n)) (some-digits 19 n) (few-digits 20 9 n (omega arith))
+  digits-worth = decimal-digits 20 n (omega arith)
 
-  -- no zero in front unless it is the number
-  no-needless-zero : (eqb (length (digits n)) 1 || not (eqb (getD (digits n) 0 0) 48)) ≡ true
+  -- and have no zero in front unless it is the number
+  pub no-needless-zero : (eqb (length (digits n)) 1 || not (eqb (getD (digits n) 0 0) 48)) ≡ true
   unfolding digits
   no-needless-zero = small-or-not n
       (λ s. simp (one-digit 19 n s))
@@ -83,12 +84,13 @@ module _ (n : ℕ) (small : n ≤ maxNumber) where
       let first : 48 < getD (lastDigits 20 n) 0 0 = first-digit 20 n (omega arith) (omega arith) in
       simp (ne-eqb (getD (lastDigits 20 n) 0 0) 48 (λ e. omega arith), or-true))
 
-  -- what the digits stand for
-  pub digits-worth : decimal 0 (digits n) ≡ n
+-- A number that a text may have is read back.
+module _ (n : ℕ) (small : n ≤ maxNumber) where
+  -- 1 to 10 digits
+  digit-count : isBetween 1 maxDigits (length (digits n)) ≡ true
   unfolding digits
-  digits-worth = decimal-digits 20 n (omega arith)
+  digit-count = true-between 1 10 (length (lastDigits 20 n)) (some-digits 19 n) (few-digits 20 9 n (omega arith))
 
-  -- the number is read back
   pub read-back : numberOf (digits n) ≡ Value n
   unfolding numberOf wellFormed digits
-  read-back = simp (digit-count, all-digits 20 n, no-needless-zero, digits-worth, le-leb n maxNumber small)
+  read-back = simp (digit-count, all-digits 20 n, no-needless-zero n (omega arith), digits-worth n (omega arith), le-leb n maxNumber small)

@@ -8,10 +8,10 @@ use borrow.Author.Tests.{ne-eqb, not-true}
 use lib.Dec.{eqb}
 use lib.ListN.{length, length-append}
 use Rattle.model.proofs.Laws.Refusal.{both-true, between-true}
 use Rattle.text.specs.Numbers.{isDigit, allDigits}
-use Rattle.printing.specs.Bytes.{digits}
-use Rattle.printing.specs.Texts.{parted, numbered, lacks}
-use Rattle.printing.proofs.Laws.Reading.{all-digits, some-digits}
+use Rattle.text.specs.Digits.{digits}
+use Rattle.text.specs.Texts.{parted, numbered, lacks}
+use Rattle.text.proofs.Laws.DigitsRead.{all-digits, some-digits}
 
 -- the byte x is none of any line's
 unfoldable pub allLack : ℕ → List (List ℕ) → Bool

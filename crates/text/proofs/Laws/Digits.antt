@@ -10,7 +10,7 @@ use borrow.Author.Tests.{lt-ltb, le-ltb, ltb-true, ltb-false}
 use lib.Dec.{ltb}
 use lib.ListN.{length, drop, set, length-append, length-set}
 use lib.Seq.{drop-cons, drop-length, drop-set-lt, getD-set-same}
-use Rattle.printing.specs.Bytes.{lastDigits, digits}
+use Rattle.text.specs.Digits.{lastDigits, digits}
 
 -- a number below 10 is one digit, any other has its last digit behind the others
 pub one-digit : (more n : ℕ) → n < 10 → lastDigits (suc more) n ≡ (48 + n) ∷ []

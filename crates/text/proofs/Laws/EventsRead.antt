@@ -1,5 +1,4 @@
 -- The text of reports within the limits is accepted, and they are read back from it.
-use mathlib.Core.Bool.{Bool}
 use mathlib.Core.List.{List, [], _∷_, _++_, map, List·Memᴰ, List·Memᴰ·head, List·Memᴰ·tail, Memᴰ·append-right}
 use mathlib.Core.Path.{_≡_, refl, sym, ap, _∙_}
 use Prim.Native.Nat.{ℕ, suc, pred, _+_, _≤_, _<_}
@@ -14,16 +13,16 @@ use Rattle.model.specs.Limits.{maxSet, maxEvents}
 use Rattle.model.specs.Network.{Network, edges, size}
 use Rattle.model.specs.Refusal.{badSet, noEdge, beyondEdge, tooManyEvents}
 use Rattle.model.specs.declared.check.Check.the-variants.{Accepted}
-use Rattle.text.specs.EventText.{Row, before-header, rows, comma, eventHeader, takeRow, takeNumbers, eventStep, eventEnd, eventLines}
-use Rattle.text.specs.Fields.{sameBytes}
+use Rattle.text.specs.EventText.{Row, before-header, rows, eventHeader, takeRow, takeNumbers, eventStep, eventEnd, eventLines}
+use Rattle.text.specs.Fields.{comma, sameBytes}
 use Rattle.text.specs.Lines.{carriageReturn, csvLines}
 use Rattle.text.specs.Numbers.{maxNumber}
 use Rattle.text.specs.Reading.{taken, read, readLines, require}
-use Rattle.printing.specs.Texts.{rowLine, eventText, lacks}
-use Rattle.printing.proofs.Laws.Lacking.{numbered-lack, numbered-some}
-use Rattle.printing.proofs.Laws.TextFields.{read-three}
-use Rattle.printing.proofs.Laws.TextLines.{Plain, one-more, map-plain, csv-plain}
-use Rattle.printing.proofs.Laws.TextRows.{holds, goes-on, rows-read}
+use Rattle.text.specs.Texts.{rowLine, eventText, SaysEvents, lacks}
+use Rattle.text.proofs.Laws.Lacking.{numbered-lack, numbered-some}
+use Rattle.text.proofs.Laws.TextFields.{read-three}
+use Rattle.text.proofs.Laws.TextLines.{Plain, one-more, map-plain, csv-plain}
+use Rattle.text.proofs.Laws.TextRows.{holds, goes-on, rows-read}
 
 -- what 12 to 14 leave of a row
 pub record IsRow (net : Network) (r : Row) : Type 0 where
@@ -74,11 +73,11 @@ module _ (net : Network) (is : IsNetwork net) (all : List Row) (are : AreRows ne
       goes-on (eventStep net) 1 {s = before-header} {s′ = rows []} eventHeader (map rowLine all) refl
       ∙ rows-read (eventStep net) rows rowLine all row-taken 2
 
--- Rows within the limits, over a network that passes its check: their text is accepted, with the last line's end or without it.
-pub events-read : (closed : Bool) (net : Network) (all : List Row) → networkCheck net ≡ Accepted → AreRows net all → eventLines net (csvLines (eventText closed all)) ≡ read all
+-- Rows within the limits, over a network that passes its check, in any text that says them: the text is accepted, and they are read.
+pub events-read : {net : Network} {all : List Row} {bytes : List ℕ} → SaysEvents all bytes → networkCheck net ≡ Accepted → AreRows net all → eventLines net (csvLines bytes) ≡ read all
 unfolding eventText eventLines eventEnd
-events-read closed net all accepted are =
-    rw (csv-plain closed (one-more header-plain (map-plain carriageReturn rowLine row-plain all)), all-taken net (network-accepted net accepted) all are)
+events-read {net} {all} says accepted are =
+    rw (says .is, csv-plain (says .closed) (one-more header-plain (map-plain carriageReturn rowLine row-plain all)), all-taken net (network-accepted net accepted) all are)
 
 -- the place of a row, and what stands there in a list made one from each row
 record Place (r : Row) (all : List Row) : Type 0 where
@@ -94,8 +93,8 @@ place-of (List·Memᴰ·tail m) =
     record { at = suc (p .at); inside = omega (arith, p .inside); entry = p .entry }
 
 -- Rows that pass the check of reports given as lists are within the limits, so their text is accepted too.
-pub reports-read : (closed : Bool) (net : Network) (all : List Row) → setsOverNetworkCheck net (map (λ r. r .set) all) (map (λ r. r .edge) all) (map (λ r. r .offset) all) ≡ Accepted → eventLines net (csvLines (eventText closed all)) ≡ read all
-reports-read closed net all accepted = events-read closed net all (network-accepts net (good .is-network)) (record { each = one; few = few })
+pub reports-read : (net : Network) {all : List Row} {bytes : List ℕ} → SaysEvents all bytes → setsOverNetworkCheck net (map (λ r. r .set) all) (map (λ r. r .edge) all) (map (λ r. r .offset) all) ≡ Accepted → eventLines net (csvLines bytes) ≡ read all
+reports-read net {all} says accepted = events-read says (network-accepts net (good .is-network)) (record { each = one; few = few })
   where
     good : SetsAccepted net (map (λ r. r .set) all) (map (λ r. r .edge) all) (map (λ r. r .offset) all)
     good = sets-accepted net (map (λ r. r .set) all) (map (λ r. r .edge) all) (map (λ r. r .offset) all) accepted

@@ -6,11 +6,13 @@ use mathlib.Core.Path.{_≡_}
 use Prim.Native.Nat.{ℕ, _*_}
 use lib.Dec.{eqb}
 use Rattle.model.specs.Network.{Network, edges}
-use Rattle.text.specs.EventText.{Row, comma, eventHeader}
+use Rattle.text.specs.EventText.{Row, eventHeader}
+use Rattle.text.specs.Fields.{comma, space}
 use Rattle.text.specs.Lines.{lineFeed}
-use Rattle.text.specs.NetworkText.{ArcRead, space}
+use Rattle.text.specs.NetworkText.{ArcRead, arcsOf}
 use Rattle.text.specs.ThresholdText.{thresholdHeader}
-use Rattle.printing.specs.Bytes.{digits, lineEnd}
+use Rattle.text.specs.Digits.{digits}
+use Rattle.text.specs.Lines.{lineEnd}
 
 -- fields with a separator between them
 unfoldable pub parted : ℕ → List (List ℕ) → List ℕ
@@ -48,28 +50,13 @@ problemLine nodes arcs = 112 ∷ 32 ∷ 115 ∷ 112 ∷ 32 ∷ numbered space (n
 unfoldable pub arcLine : ArcRead → List ℕ
 arcLine a = 97 ∷ 32 ∷ numbered space (a .from ∷ a .to ∷ a .weight ∷ [])
 
--- an arc, from its three numbers
-abbrev pub arc : ℕ → ℕ → ℕ → ArcRead
-arc from to weight = record { from = from; to = to; weight = weight }
-
--- the arcs of edges given by first nodes, second nodes and lengths: each edge, and behind it the same turned round
-unfoldable pub arcsOf : List ℕ → List ℕ → List ℕ → List ArcRead
-arcsOf [] vs ws = []
-arcsOf (u ∷ us) [] ws = []
-arcsOf (u ∷ us) (v ∷ vs) [] = []
-arcsOf (u ∷ us) (v ∷ vs) (w ∷ ws) = arc u v w ∷ arc v u w ∷ arcsOf us vs ws
-
--- those of a network
+-- the arcs of a network
 unfoldable pub networkArcs : Network → List ArcRead
 networkArcs net = arcsOf (net .firsts) (net .seconds) (net .lengths)
 
 -- a network's lines: the `p` line, then its arcs
 unfoldable pub networkTextLines : Network → List (List ℕ)
 networkTextLines net = problemLine (net .nodes) (2 * edges net) ∷ map arcLine (networkArcs net)
-
--- a network: these lines, each ended by a line feed
-unfoldable pub networkText : Bool → Network → List ℕ
-networkText closed net = joined (lineFeed ∷ []) closed (networkTextLines net)
 
 -- a byte is none of a line's
 unfoldable pub lacks : ℕ → List ℕ → Bool
@@ -86,3 +73,20 @@ pub data WithRemarks : List (List ℕ) → List (List ℕ) → Type 0 where
   no-more : WithRemarks [] []
   kept : {line : List ℕ} {lines all : List (List ℕ)} → WithRemarks lines all → WithRemarks (line ∷ lines) (line ∷ all)
   put-in : {remark : List ℕ} {lines all : List (List ℕ)} → IsRemark remark → WithRemarks lines all → WithRemarks lines (remark ∷ all)
+
+-- The texts that say given lists, in every layout that 01 permits. A network's: its lines with remarks anywhere among them, each line
+-- ended by a line feed, the last one ended or not.
+pub record SaysNetwork (net : Network) (bytes : List ℕ) : Type 0 where
+  pub lines : List (List ℕ)
+  pub among : WithRemarks (networkTextLines net) lines
+  pub closed : Bool
+  pub is : bytes ≡ joined (lineFeed ∷ []) closed lines
+
+-- of reports and of thresholds: the last line ended or not
+pub record SaysEvents (rows : List Row) (bytes : List ℕ) : Type 0 where
+  pub closed : Bool
+  pub is : bytes ≡ eventText closed rows
+
+pub record SaysThresholds (ts bytes : List ℕ) : Type 0 where
+  pub closed : Bool
+  pub is : bytes ≡ thresholdText closed ts

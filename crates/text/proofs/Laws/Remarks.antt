@@ -3,14 +3,14 @@ use mathlib.Core.List.{List, [], _∷_}
 use mathlib.Core.Path.{_≡_, refl, ap, _∙_}
 use Prim.Native.Nat.{ℕ, suc}
 use native.Mathlib.Omega.{arith}
 use Rattle.text.specs.Fields.{sameBytes, beginsWith}
 use Rattle.text.specs.Lines.{lineFeed}
 use Rattle.text.specs.NetworkText.{NetworkState, networkLine, networkStep}
 use Rattle.text.specs.Reading.{Step, taken, refused, Outcome, read, readLines, next}
 use Rattle.text.specs.declared.network_line.NetworkLine.the-variants.{Remark}
-use Rattle.printing.specs.Texts.{lacks, IsRemark, bare, saying, WithRemarks, no-more, kept, put-in}
-use Rattle.printing.proofs.Laws.TextLines.{Plain, AllPlain, one-more}
-use Rattle.printing.proofs.Laws.TextRows.{goes-on}
+use Rattle.text.specs.Texts.{lacks, IsRemark, bare, saying, WithRemarks, no-more, kept, put-in}
+use Rattle.text.proofs.Laws.TextLines.{Plain, AllPlain, one-more}
+use Rattle.text.proofs.Laws.TextRows.{goes-on}
 
 -- what a line of bytes does
 abbrev pub lineStep : NetworkState → List ℕ → Step NetworkState

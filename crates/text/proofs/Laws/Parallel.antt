@@ -5,7 +5,7 @@ use Prim.Native.Nat.{ℕ, zero, suc, _+_, _≤_, _<_}
 use native.Mathlib.Omega.{arith}
 use lib.ListN.{length, take, set, getD, length-set, length-map, List·getD-map}
 use lib.Seq.{take-suc-set, ext-getD, length-take-le}
-use Rattle.reading.specs.Parallel.{beside, Level}
+use Rattle.text.specs.Parallel.{beside, Level}
 
 -- a part of a list, mapped
 pub map-take : {A : Type 0} (f : A → ℕ) (n : ℕ) (xs : List A) → map f (take n xs) ≡ take n (map f xs)

@@ -12,18 +12,17 @@ use Rattle.model.specs.Checks.{thresholdsCheck}
 use Rattle.model.specs.Limits.{maxThresholds}
 use Rattle.model.specs.Refusal.{badThresholds, notRising}
 use Rattle.model.specs.declared.check.Check.the-variants.{Accepted}
-use Rattle.text.specs.EventText.{comma}
-use Rattle.text.specs.Fields.{sameBytes}
+use Rattle.text.specs.Fields.{comma, sameBytes}
 use Rattle.text.specs.Lines.{carriageReturn, csvLines}
 use Rattle.text.specs.Numbers.{maxNumber}
 use Rattle.text.specs.Reading.{taken, read, readLines, require}
 use Rattle.text.specs.ThresholdText.{thresholdHeader, values, before-header, aboveLast, takeThreshold, takeNumber, thresholdStep, thresholdEnd, thresholdLines}
-use Rattle.printing.specs.Bytes.{digits}
-use Rattle.printing.specs.Texts.{thresholdText, lacks}
-use Rattle.printing.proofs.Laws.Lacking.{digits-lack, digits-some}
-use Rattle.printing.proofs.Laws.TextFields.{read-one}
-use Rattle.printing.proofs.Laws.TextLines.{Plain, one-more, map-plain, csv-plain}
-use Rattle.printing.proofs.Laws.TextRows.{holds, goes-on, rows-read}
+use Rattle.text.specs.Digits.{digits}
+use Rattle.text.specs.Texts.{thresholdText, SaysThresholds, lacks}
+use Rattle.text.proofs.Laws.Lacking.{digits-lack, digits-some}
+use Rattle.text.proofs.Laws.TextFields.{read-one}
+use Rattle.text.proofs.Laws.TextLines.{Plain, one-more, map-plain, csv-plain}
+use Rattle.text.proofs.Laws.TextRows.{holds, goes-on, rows-read}
 
 -- in a list that rises an entry is above the last of those before it
 above-last : (before : List ℕ) (t : ℕ) (rest : List ℕ) → ((k : ℕ) → suc k < length (before ++ (t ∷ rest)) → getD (before ++ (t ∷ rest)) k 0 < getD (before ++ (t ∷ rest)) (suc k) 0) → aboveLast before t ≡ true
@@ -66,10 +65,10 @@ unfolding thresholdEnd
 some-read place [] some = absurd (omega arith)
 some-read place (t ∷ ts) some = refl
 
--- Thresholds that pass the check of a threshold list, and are no greater than a number in a text may be: their text is accepted, with the
--- last line's end or without it.
-pub thresholds-read : (closed : Bool) (ts : List ℕ) → thresholdsCheck ts ≡ Accepted → ((k : ℕ) → k < length ts → getD ts k 0 ≤ maxNumber) → thresholdLines (csvLines (thresholdText closed ts)) ≡ read ts
+-- Thresholds that pass the check of a threshold list, and are no greater than a number in a text may be, in any text that says them: the
+-- text is accepted, and they are read.
+pub thresholds-read : {ts bytes : List ℕ} → SaysThresholds ts bytes → thresholdsCheck ts ≡ Accepted → ((k : ℕ) → k < length ts → getD ts k 0 ≤ maxNumber) → thresholdLines (csvLines bytes) ≡ read ts
 unfolding thresholdText thresholdLines
-thresholds-read closed ts accepted small =
+thresholds-read {ts} says accepted small =
     let good = thresholds-accepted ts accepted in
-    rw (csv-plain closed (one-more header-plain (map-plain carriageReturn digits number-plain ts)), all-taken ts good small) (some-read _ ts (good .some))
+    rw (says .is, csv-plain (says .closed) (one-more header-plain (map-plain carriageReturn digits number-plain ts)), all-taken ts good small) (some-read _ ts (good .some))

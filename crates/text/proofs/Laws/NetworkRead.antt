@@ -1,5 +1,5 @@
 -- The text of a network within the limits is accepted, and the network is read back from it.
-use mathlib.Core.Bool.{Bool, true, _||_, or-true}
+use mathlib.Core.Bool.{true, _||_, or-true}
 use mathlib.Core.List.{List, [], _∷_, _++_, map, append-nil}
 use mathlib.Core.Path.{_≡_, refl, sym, ap, _∙_}
 use Prim.Native.Nat.{ℕ, suc, _+_, _*_, _%_, _≤_, _<_}
@@ -15,15 +15,17 @@ use Rattle.model.specs.Limits.{maxNodes, maxEdges, maxLength}
 use Rattle.model.specs.Network.{Network, network, edges, first, second, size}
 use Rattle.model.specs.Refusal.{badSizes, badNode, selfJoined, badLength}
 use Rattle.model.specs.declared.check.Check.the-variants.{Accepted}
+use Rattle.text.specs.Fields.{space}
 use Rattle.text.specs.Lines.{lineFeed, feedLines}
-use Rattle.text.specs.NetworkText.{ArcRead, before-problem, reading, space, turnsLast, takeArc, takeProblem, networkStep, networkEnd, ended, networkLines, everyOther, networkOfArcs}
+use Rattle.text.specs.NetworkText.{ArcRead, before-problem, reading, arc, turnsLast, takeArc, takeProblem, networkStep, networkEnd, ended, networkLines, everyOther, networkOfArcs, bothWays, arcsOf}
+use Rattle.text.specs.Parallel.{beside}
 use Rattle.text.specs.Reading.{taken, read, readLines, notTurned, wrongArcs}
-use Rattle.printing.specs.Texts.{arc, arcsOf, networkArcs, problemLine, arcLine, networkTextLines, networkText, joined, WithRemarks, lacks}
-use Rattle.printing.proofs.Laws.Lacking.{numbered-lack}
-use Rattle.printing.proofs.Laws.Remarks.{lineStep, remarks-plain, no-remarks, remarks-passed}
-use Rattle.printing.proofs.Laws.TextFields.{problem-line, arc-line}
-use Rattle.printing.proofs.Laws.TextLines.{Plain, AllPlain, one-more, map-plain, feed-plain}
-use Rattle.printing.proofs.Laws.TextRows.{holds, goes-on}
+use Rattle.text.specs.Texts.{networkArcs, problemLine, arcLine, networkTextLines, SaysNetwork, lacks}
+use Rattle.text.proofs.Laws.Lacking.{numbered-lack}
+use Rattle.text.proofs.Laws.Remarks.{lineStep, remarks-plain, remarks-passed}
+use Rattle.text.proofs.Laws.TextFields.{problem-line, arc-line}
+use Rattle.text.proofs.Laws.TextLines.{Plain, AllPlain, one-more, map-plain, feed-plain}
+use Rattle.text.proofs.Laws.TextRows.{holds, goes-on}
 
 -- a `p` line is read back
 problem-plain : (nodes arcs : ℕ) → Plain lineFeed (problemLine nodes arcs)
@@ -89,7 +91,7 @@ module _ (nodes arcs : ℕ) (few : nodes ≤ maxNodes) where
       → length before % 2 ≡ 0
       → length before + 2 * length ws ≤ arcs
       → readLines lineStep place (reading nodes arcs before) (map arcLine (arcsOf us vs ws)) ≡ read (reading nodes arcs (before ++ arcsOf us vs ws))
-  unfolding arcsOf readLines
+  unfolding arcsOf bothWays beside readLines
   arcs-taken [] vs ws before place good even room = rw append-nil
   arcs-taken (u ∷ us) [] ws before place good even room = rw append-nil
   arcs-taken (u ∷ us) (v ∷ vs) [] before place good even room = rw append-nil
@@ -109,7 +111,7 @@ module _ (nodes arcs : ℕ) (few : nodes ≤ maxNodes) where
 
 -- two arcs to an edge
 arcs-length : (us vs ws : List ℕ) → length us ≡ length ws → length vs ≡ length ws → length (arcsOf us vs ws) ≡ 2 * length ws
-unfolding arcsOf
+unfolding arcsOf bothWays beside
 arcs-length [] vs ws same same′ = omega arith
 arcs-length (u ∷ us) [] ws same same′ = omega arith
 arcs-length (u ∷ us) (v ∷ vs) [] same same′ = omega arith
@@ -117,7 +119,7 @@ arcs-length (u ∷ us) (v ∷ vs) (w ∷ ws) same same′ = omega (arith, arcs-l
 
 -- every other arc is an edge again
 edges-back : (nodes : ℕ) (us vs ws : List ℕ) → length us ≡ length ws → length vs ≡ length ws → networkOfArcs nodes (arcsOf us vs ws) ≡ network nodes us vs ws
-unfolding networkOfArcs arcsOf everyOther
+unfolding networkOfArcs arcsOf bothWays beside everyOther
 edges-back nodes [] [] [] same same′ = refl
 edges-back nodes [] [] (w ∷ ws) same same′ = absurd (omega arith)
 edges-back nodes [] (v ∷ vs) ws same same′ = absurd (omega arith)
@@ -162,19 +164,13 @@ module _ (net : Network) (is : IsNetwork net) where
   unfolding networkArcs
   all-there = arcs-length (net .firsts) (net .seconds) (net .lengths) (is .firsts-length) (is .seconds-length)
 
--- A network that passes its check: its lines with any remarks among them are accepted, with the last line's end or without it, and its
--- arcs are read.
-pub remarks-read : (closed : Bool) (net : Network) (all : List (List ℕ)) → networkCheck net ≡ Accepted → WithRemarks (networkTextLines net) all → networkLines (feedLines (joined (lineFeed ∷ []) closed all)) ≡ read (reading (net .nodes) (2 * edges net) (networkArcs net))
+-- A network that passes its check, in any text that says it: the text's lines are accepted, and the network's arcs are read.
+pub network-read : {net : Network} {bytes : List ℕ} → SaysNetwork net bytes → networkCheck net ≡ Accepted → networkLines (feedLines bytes) ≡ read (reading (net .nodes) (2 * edges net) (networkArcs net))
 unfolding networkLines ended networkEnd
-remarks-read closed net all accepted among =
+network-read {net} says accepted =
     let is = network-accepted net accepted in
-    rw (feed-plain closed (remarks-plain among (lines-plain net is)), remarks-passed among 1 1 before-problem (all-taken net is))
+    rw (says .is, feed-plain (says .closed) (remarks-plain (says .among) (lines-plain net is)), remarks-passed (says .among) 1 1 before-problem (all-taken net is))
     (rw (eq-eqb (length (networkArcs net)) (2 * edges net) (all-there net is)))
-
--- So its text is, which has no remarks.
-pub network-read : (closed : Bool) (net : Network) → networkCheck net ≡ Accepted → networkLines (feedLines (networkText closed net)) ≡ read (reading (net .nodes) (2 * edges net) (networkArcs net))
-unfolding networkText
-network-read closed net accepted = remarks-read closed net (networkTextLines net) accepted (no-remarks (networkTextLines net))
 
 -- The network of those arcs is the one that the text says.
 pub network-back : (net : Network) → networkCheck net ≡ Accepted → networkOfArcs (net .nodes) (networkArcs net) ≡ net
