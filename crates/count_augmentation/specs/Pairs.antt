@@ -11,7 +11,6 @@ use Rattle.model.specs.Network.{Network, first, second, size}
 use Rattle.prepare.specs.Prepared.{entry}
 use Rattle.count_augmentation.specs.Reach.{farthest, reached, lookedUp, Run}
 use Rattle.prepare.specs.Offsets.{OnEdge}
-use Rattle.count_augmentation.specs.Storing.{NumbersStored}
 use Rattle.count_augmentation.specs.declared.pairs.EdgePair.{EdgePair}
 use Rattle.count_augmentation.specs.declared.pairs.Rows.{Rows}
 
@@ -103,8 +102,3 @@ pub record TwoRuns (g : EdgePair) (xs ys near-first near-second : List ℕ) : Ty
   pub few : length xs ≤ maxEvents
   pub run : Run (g .other) ys near-first near-second
   pub least-is : g .least ≡ leastEntry (g .firsts) (g .onward) (g .back) (g .seconds)
-
--- and these are right
-pub record TwoRunsStored (g : EdgePair) (xs ys near-first near-second : List ℕ) : Type 0 where
-  pub runs : TwoRuns g xs ys near-first near-second
-  pub stored : NumbersStored (g .other) ys near-first near-second

@@ -4,7 +4,7 @@ ghost use mathlib.Core.List.{List};
 ghost use mathlib.Core.Path.{_≡_};
 ghost use Prim.Native.Nat.{ℕ, pred, _+_, _*_, _≤_, _<_};
 ghost use lib.ListN.{length, getD};
-ghost use Rattle.model.specs.Limits.{maxNodes, maxEvents, maxPairs};
+ghost use Rattle.model.specs.Limits.{maxNodes, maxEvents};
 ghost use Rattle.model.specs.Network.{network};
 ghost use Rattle.prepare.specs.EndTable.{EndTable};
 ghost use Rattle.prepare.specs.Ways.{way};
@@ -170,8 +170,8 @@ fn is_whole(g: EdgePair, threshold: u32) -> bool
     routes <= 2 * threshold as u64 + 1
 }
 
-// For each event of a run on the first edge, how many of a run on the second it reaches: looked up once for events at one offset. The
-// whole run's number is read beforehand, once for all thresholds.
+// For each event of a run on the first edge, what is looked up of a run on the second, once for events at one offset: how many it
+// reaches, where the stored numbers are right. The whole run's number is read beforehand, once for all thresholds.
 pub(crate) fn count_run(
     g: EdgePair,
     threshold: u32,
@@ -182,8 +182,8 @@ pub(crate) fn count_run(
     all: u32,
 ) -> u64
     requires { ⌜ TwoRuns g (now «from_offsets») (now offsets) (now «near_first») (now «near_second») × (all ≡ storedLast (now «near_first»)) ⌝ }
-    ensures { λ r. ⌜ r ≡ lookedUpPairs g threshold (now («from_offsets» .entry)) (now (offsets .entry)) (now («near_first» .entry)) (now («near_second» .entry)) ⌝ }
-    ensures { λ r. ⌜ (NumbersStored (g .other) (now (offsets .entry)) (now («near_first» .entry)) (now («near_second» .entry)) → (r ≡ reachedPairs g threshold (now («from_offsets» .entry)) (now (offsets .entry))) × (r ≤ maxPairs)) ⌝ }
+    ensures { λ r. ⌜ (r ≡ lookedUpPairs g threshold (now («from_offsets» .entry)) (now (offsets .entry)) (now («near_first» .entry)) (now («near_second» .entry))) × (r ≤ maxEvents * 4294967295) ⌝ }
+    ensures { λ r. ⌜ (NumbersStored (g .other) (now (offsets .entry)) (now («near_first» .entry)) (now («near_second» .entry)) → r ≡ reachedPairs g threshold (now («from_offsets» .entry)) (now (offsets .entry))) ⌝ }
 {
     if is_beyond(g, threshold) {
         return 0;

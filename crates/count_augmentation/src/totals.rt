@@ -4,8 +4,9 @@ ghost use Prim.Native.Nat.{suc, _≤_, _<_};
 ghost use lib.ListN.{length, getD};
 ghost use Rattle.model.specs.Network.{network};
 ghost use Rattle.prepare.specs.RunPairs.{runPairs};
-ghost use Rattle.count_augmentation.specs.Pairs.{reachedPairs, lookedUpPairs, TwoRunsStored};
+ghost use Rattle.count_augmentation.specs.Pairs.{reachedPairs, lookedUpPairs, TwoRuns};
 ghost use Rattle.count_augmentation.specs.Runs.{RunStored, RunsStored};
+ghost use Rattle.count_augmentation.specs.Storing.{NumbersStored};
 ghost use Rattle.prepare.specs.Totals.{Steps, ReadyAt, UpTo, AddedAt, EarlierAdded, Totalled};
 use crate::look_up::count_all;
 use crate::pairs::EdgePair;
@@ -23,7 +24,8 @@ fn threshold_at(thresholds: &[u32], k: usize) -> u32
     thresholds[k]
 }
 
-// Adds, at each threshold, what is looked up of a run on the second edge for the events of one on the first: how many they reach.
+// Adds, at each threshold, what is looked up of a run on the second edge for the events of one on the first, whatever the stored
+// lists hold: how many they reach, where the stored numbers are right.
 fn add_counts(
     g: EdgePair,
     from_offsets: &[u32],
@@ -33,9 +35,9 @@ fn add_counts(
     thresholds: &[u32],
     totals: &mut [u64],
 )
-    requires { ⌜ TwoRunsStored g (now «from_offsets») (now offsets) (now «near_first») (now «near_second») × UpTo (length (now thresholds)) 9223372036854775808 (now totals) ⌝ }
+    requires { ⌜ TwoRuns g (now «from_offsets») (now offsets) (now «near_first») (now «near_second») × UpTo (length (now thresholds)) 9223372036854775808 (now totals) ⌝ }
     ensures { λ _. ⌜ AddedAt (length (now (thresholds .entry))) (λ k. lookedUpPairs g (getD (now (thresholds .entry)) k 0) (now («from_offsets» .entry)) (now (offsets .entry)) (now («near_first» .entry)) (now («near_second» .entry))) (now (totals .entry)) (now (totals .exit)) ⌝ }
-    ensures { λ _. ⌜ AddedAt (length (now (thresholds .entry))) (λ k. reachedPairs g (getD (now (thresholds .entry)) k 0) (now («from_offsets» .entry)) (now (offsets .entry))) (now (totals .entry)) (now (totals .exit)) ⌝ }
+    ensures { λ _. ⌜ (NumbersStored (g .other) (now (offsets .entry)) (now («near_first» .entry)) (now («near_second» .entry)) → AddedAt (length (now (thresholds .entry))) (λ k. reachedPairs g (getD (now (thresholds .entry)) k 0) (now («from_offsets» .entry)) (now (offsets .entry))) (now (totals .entry)) (now (totals .exit))) ⌝ }
 {
     let all = count_all(near_first);
     let mut k = 0;

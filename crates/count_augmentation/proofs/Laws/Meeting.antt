@@ -18,9 +18,10 @@ use Rattle.model.specs.NodeDistance.{boundedDistance}
 use Rattle.prepare.proofs.Laws.RunPairs.{run-is, run-codes, part-of-length}
 use Rattle.prepare.specs.Prepared.{entry}
 use Rattle.prepare.specs.RunPairs.{edgeOf, partOf, runPairs, RunsReady}
-use Rattle.count_augmentation.specs.Pairs.{edgePair, rowsOf, reachedBy, reachedPairs, Apart, TwoRunsStored}
+use Rattle.count_augmentation.specs.Pairs.{edgePair, rowsOf, reachedBy, reachedPairs, Apart, TwoRuns}
 use Rattle.count_augmentation.specs.Reach.{reached}
 use Rattle.count_augmentation.specs.Runs.{RunStored}
+use Rattle.count_augmentation.specs.Storing.{NumbersStored}
 use Rattle.prepare.specs.Offsets.{OnEdge}
 use Rattle.prepare.specs.Totals.{ReadyAt, AddedAt}
 use Rattle.count_augmentation.specs.declared.pairs.EdgePair.{EdgePair}
@@ -44,6 +45,11 @@ pub record Within (l : List ℕ) (from to : ℕ) : Type 0 where
   pub in-order : from ≤ to
   pub in-list : to ≤ length l
   pub few : to ≤ maxEvents
+
+-- two runs, and the numbers of the second are right
+pub record TwoRunsStored (g : EdgePair) (xs ys near-first near-second : List ℕ) : Type 0 where
+  pub runs : TwoRuns g xs ys near-first near-second
+  pub stored : NumbersStored (g .other) ys near-first near-second
 
 module _ {net : Network} {table es xs bounds : List ℕ} {r q t : ℕ} (w : RunsReady net table es xs bounds r q t) where
   -- a run's part of a list
@@ -142,8 +148,10 @@ module _ {net : Network} {table es xs bounds ts : List ℕ} {a b : ℕ} (w : Rea
   met-at : (k : ℕ) → k < length ts → (x : ℕ) → x ≡ reachedPairs g (getD ts k 0) (take (to - from) (drop from xs)) (take (other-to - other-from) (drop other-from xs)) → x ≡ runPairs net es xs bounds (getD ts k 0) a b
   met-at k h = runs-met (w .at k h) a b order (omega arith) (omega arith) (omega arith) read g g-is
 
-  pub runs-added : {old new : List ℕ} → AddedAt (length ts) (λ k. reachedPairs g (getD ts k 0) (take (to - from) (drop from xs)) (take (other-to - other-from) (drop other-from xs))) old new → AddedAt (length ts) (λ k. runPairs net es xs bounds (getD ts k 0) a b) old new
-  runs-added {old} found = record { at = λ k h. found .at k h ∙ ap (λ (n : ℕ). getD old k 0 + n) (met-at k h _ refl) }
+  pub runs-added : {near-first near-second old new : List ℕ} → 1 ≤ length ts → RunStored xs bounds near-first near-second b → (NumbersStored (g .other) (take (other-to - other-from) (drop other-from xs)) (take (other-to - other-from) (drop other-from near-first)) (take (other-to - other-from) (drop other-from near-second)) → AddedAt (length ts) (λ k. reachedPairs g (getD ts k 0) (take (to - from) (drop from xs)) (take (other-to - other-from) (drop other-from xs))) old new) → AddedAt (length ts) (λ k. runPairs net es xs bounds (getD ts k 0) a b) old new
+  runs-added {old = old} some stored found =
+      let right = runs-asked (w .at 0 some) a b order (omega arith) (omega arith) (omega arith) read g g-is stored .stored in
+      record { at = λ k h. found right .at k h ∙ ap (λ (n : ℕ). getD old k 0 + n) (met-at k h _ refl) }
 
 -- the same where no end of the one edge has an entry for an end of the other
 module _ {net : Network} {table es xs bounds ts : List ℕ} {r q a b : ℕ} (w : ReadyAt net table es xs bounds ts r q) (ha : r ≤ a) (la : a < q) (hb : r ≤ b) (lb : b < q)

@@ -10,12 +10,12 @@ use lib.Dec.{eqb, eqb·suc-zero}
 use lib.ListN.{length, getD}
 use Rattle.model.proofs.Laws.Counting.{count-at-most, sum-below-zero, sum-below-cong, sum-below-mono}
 use Rattle.model.specs.Counting.{sumBelow}
-use Rattle.model.specs.Limits.{maxPairs}
+use Rattle.model.specs.Limits.{maxEvents}
 use Rattle.model.specs.Network.{Network, first, second, size}
 use Rattle.prepare.specs.Prepared.{entry}
 use Rattle.prepare.specs.Totals.{AddedAt}
 use Rattle.prepare.specs.Ways.{way}
-use Rattle.count_augmentation.specs.Pairs.{lesserEntry, leastEntry, rowsOf, inRow, edgePair, toFirst, toSecond, reachedBy, reachedPairs, lookedUpBy, lookedUpPairs, TwoRuns, TwoRunsStored}
+use Rattle.count_augmentation.specs.Pairs.{lesserEntry, leastEntry, rowsOf, inRow, edgePair, toFirst, toSecond, reachedBy, reachedPairs, lookedUpBy, lookedUpPairs, TwoRuns}
 use Rattle.count_augmentation.specs.Reach.{reachOf, farthest, reached, Run}
 use Rattle.count_augmentation.specs.Storing.{NumbersStored, storedLast}
 use Rattle.count_augmentation.specs.declared.pairs.EdgePair.{EdgePair}
@@ -129,14 +129,10 @@ module _ (g : EdgePair) (t : ℕ) where
   unfolding reachedBy reached
   reached-few x ys = count-at-most _ ys
 
-  -- nothing of two runs, and at most every two of their events
+  -- nothing of two runs
   pub no-pairs : (xs ys : List ℕ) → ((x : ℕ) (ys : List ℕ) → reachedBy g t x ys ≡ 0) → 0 ≡ reachedPairs g t xs ys
   unfolding reachedPairs
   no-pairs xs ys none = sym (sum-below-zero (length xs) _ (λ i h. none (getD xs i 0) ys))
-
-  pairs-at-most : (xs ys : List ℕ) → reachedPairs g t xs ys ≤ length xs * length ys
-  unfolding reachedPairs
-  pairs-at-most xs ys = omega (arith, sum-below-mono (length xs) (λ i. reachedBy g t (getD xs i 0) ys) (λ i. length ys) (λ i h. reached-few (getD xs i 0) ys), sum-same (length xs) (length ys))
 
   -- what is looked up is no greater than the whole run's number and the size of the run
   pub looked-up-small : (x : ℕ) (ys near-first near-second : List ℕ) (m : ℕ) → storedLast near-first ≤ m → length ys ≤ m → lookedUpBy g t x ys near-first near-second ≤ m
@@ -160,15 +156,24 @@ module _ (g : EdgePair) (t : ℕ) where
     unfolding lookedUpPairs reachedPairs lookedUpBy reachedBy
     pairs-looked-up stored = sum-below-cong (length xs) _ _ (λ i h. looked-reached (two .run) stored _ _ t (getD xs i 0) (g .same))
 
-    pub pairs-counted : {r : ℕ} → r ≡ lookedUpPairs g t xs ys near-first near-second → NumbersStored (g .other) ys near-first near-second → (r ≡ reachedPairs g t xs ys) × (r ≤ maxPairs)
-    pairs-counted read stored =
-        let same = read ∙ pairs-looked-up stored in
-        (same, omega (arith, same, pairs-at-most xs ys, mul-le-mul (two .few) (two .run .few)))
+    -- it is no more than the greatest number for each event
+    looked-up-few : storedLast near-first ≤ 4294967295 → lookedUpPairs g t xs ys near-first near-second ≤ maxEvents * 4294967295
+    unfolding lookedUpPairs
+    looked-up-few small =
+        omega (
+          arith,
+          sum-below-mono (length xs) (λ i. lookedUpBy g t (getD xs i 0) ys near-first near-second) (λ i. 4294967295) (λ i h. looked-up-small (getD xs i 0) ys near-first near-second 4294967295 small (omega (arith, two .run .few))),
+          sum-same (length xs) 4294967295,
+          mul-le-mul {m₁ = 4294967295} {m₂ = 4294967295} (two .few) (omega arith),
+        )
+
+    pub pairs-counted : {r : ℕ} → storedLast near-first ≤ 4294967295 → r ≡ lookedUpPairs g t xs ys near-first near-second → ((r ≡ lookedUpPairs g t xs ys near-first near-second) × (r ≤ maxEvents * 4294967295)) × (NumbersStored (g .other) ys near-first near-second → r ≡ reachedPairs g t xs ys)
+    pairs-counted small read = ((read, rw read (looked-up-few small)), λ stored. read ∙ pairs-looked-up stored)
 
 -- what is looked up at each threshold of right numbers is what is reached
-pub all-reached : {g : EdgePair} {xs ys near-first near-second : List ℕ} {n : ℕ} {old new : List ℕ} (ts : List ℕ) → TwoRunsStored g xs ys near-first near-second → AddedAt n (λ k. lookedUpPairs g (getD ts k 0) xs ys near-first near-second) old new → AddedAt n (λ k. reachedPairs g (getD ts k 0) xs ys) old new
-all-reached {g} {old = old} ts two added =
-    record { at = λ k h. added .at k h ∙ ap (λ (m : ℕ). getD old k 0 + m) (pairs-looked-up g (getD ts k 0) (two .runs) (two .stored)) }
+pub all-reached : {g : EdgePair} {xs ys near-first near-second : List ℕ} {n : ℕ} {old new : List ℕ} (ts : List ℕ) → TwoRuns g xs ys near-first near-second → NumbersStored (g .other) ys near-first near-second → AddedAt n (λ k. lookedUpPairs g (getD ts k 0) xs ys near-first near-second) old new → AddedAt n (λ k. reachedPairs g (getD ts k 0) xs ys) old new
+all-reached {g} {old = old} ts two stored added =
+    record { at = λ k h. added .at k h ∙ ap (λ (m : ℕ). getD old k 0 + m) (pairs-looked-up g (getD ts k 0) two stored) }
 
 -- two edges as they are read
 pub pair-read : (net : Network) (table : List ℕ) (i j : ℕ) {rows : Rows} {ff fs sf ss least : ℕ} → rows ≡ rowsOf (net .nodes) (first net i) (second net i) → ff ≡ inRow table (rows .first) (first net j) → fs ≡ inRow table (rows .first) (second net j) → sf ≡ inRow table (rows .second) (first net j) → ss ≡ inRow table (rows .second) (second net j) → least ≡ leastEntry ff fs sf ss → _≡_ {A = EdgePair} (record { size = size net i; other = size net j; firsts = ff; onward = fs; back = sf; seconds = ss; same = eqb i j; least = least }) (edgePair net table i j)

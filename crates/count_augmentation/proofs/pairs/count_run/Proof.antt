@@ -6,6 +6,7 @@ use native.Mathlib.Omega.{arith}
 use lib.ListN.{length, getD}
 use Rattle.model.specs.Counting.{sumBelow}
 use Rattle.count_augmentation.specs.Pairs.{lookedUpBy, lookedUpPairs}
+use Rattle.count_augmentation.specs.Storing.{storedLast}
 use Rattle.model.proofs.Laws.Equals.{Equals, equals-end, sum-equals}
 use Rattle.count_augmentation.proofs.Laws.Pairs.{looked-up-small, no-look-ups, all-look-ups, pairs-counted}
 use borrow.Author.Needs.{needs}
@@ -20,8 +21,11 @@ abbrev μ-loop : tie.MeasureT-loop
 μ-loop g threshold from-offsets offsets near-first near-second all total₀ i₀ total i = length from-offsets - i
 
 -- the whole run's number is of 32 bits, and so is what is looked up for an event
+all-fits : (c : tie.Start Inv-loop μ-loop) → storedLast (c .args .near-first .now) ≤ 4294967295
+all-fits c = rw (← c .pre .1) (omega arith)
+
 event-small : (c : tie.After-count-event Inv-loop μ-loop) → c .count-event .result ≤ 4294967295
-event-small c = rw (c .count-event .ensures .0) (looked-up-small (c .before .before .before .before .before .before .before .before .before .before .before .before .before .args .g) (c .before .before .before .before .before .before .before .before .before .before .before .before .before .args .threshold) _ _ _ _ 4294967295 (rw (← c .before .before .before .before .before .before .before .before .before .before .before .before .before .pre .1) (omega arith)) (omega (arith, c .before .before .before .before .before .before .before .before .before .before .before .before .before .pre .0 .run .few)))
+event-small c = rw (c .count-event .ensures .0) (looked-up-small (c .before .before .before .before .before .before .before .before .before .before .before .before .before .args .g) (c .before .before .before .before .before .before .before .before .before .before .before .before .before .args .threshold) _ _ _ _ 4294967295 (all-fits (c .before .before .before .before .before .before .before .before .before .before .before .before .before)) (omega (arith, c .before .before .before .before .before .before .before .before .before .before .before .before .before .pre .0 .run .few)))
 
 -- the events at one offset, and what is looked up for all of them
 ended : (c : tie.After-equals-end Inv-loop μ-loop) → Equals (c .before .before .before .before .before .before .before .before .before .before .before .args .from-offsets .now) (c .before .before .loop .i) (c .equals-end .result)
@@ -36,7 +40,7 @@ is-beyond-requires c κs = c .before .before .before .before .pre .0 .least-is
 returns : tie.Need-returns Inv-loop μ-loop
 returns c =
     let read = no-look-ups _ _ (c .before .before .before .before .before .before .pre .0) (c .before .is-beyond .ensures .1 (c .if1 .taken)) in
-    (read, pairs-counted _ _ (c .before .before .before .before .before .before .pre .0) read)
+    pairs-counted _ _ (c .before .before .before .before .before .before .pre .0) (all-fits (c .before .before .before .before .before .before)) read
 
 is-whole-requires : tie.Need-is-whole-requires Inv-loop μ-loop
 is-whole-requires c κs = search needs
@@ -47,7 +51,7 @@ mul-result c = omega (arith, mul-le-mul {m₁ = c .before .before .before .befor
 returns-2 : tie.Need-returns-2 Inv-loop μ-loop
 returns-2 c =
     let read = ap (λ (n : ℕ). length (c .before .before .before .before .before .before .before .before .args .from-offsets .now) * n) (c .before .before .before .before .before .before .before .before .pre .1) ∙ all-look-ups _ _ (c .before .before .before .before .before .before .before .before .pre .0) (c .before .is-whole .ensures (c .if2 .taken)) in
-    (read, pairs-counted _ _ (c .before .before .before .before .before .before .before .before .pre .0) read)
+    pairs-counted _ _ (c .before .before .before .before .before .before .before .before .pre .0) (all-fits (c .before .before .before .before .before .before .before .before)) read
 
 loop-holds : tie.Need-loop-holds Inv-loop μ-loop
 unfolding sumBelow
@@ -90,7 +94,7 @@ unfolding lookedUpPairs
 returns-3 c =
     let end : c .before .loop .i ≡ length (c .before .before .before .before .before .before .before .before .before .before .args .from-offsets .now) = omega arith in
     let read : c .before .loop .total ≡ lookedUpPairs (c .before .before .before .before .before .before .before .before .before .before .args .g) (c .before .before .before .before .before .before .before .before .before .before .args .threshold) (c .before .before .before .before .before .before .before .before .before .before .args .from-offsets .now) (c .before .before .before .before .before .before .before .before .before .before .args .offsets .now) (c .before .before .before .before .before .before .before .before .before .before .args .near-first .now) (c .before .before .before .before .before .before .before .before .before .before .args .near-second .now) = rw (← end) (c .before .loop .inv .1) in
-    (read, pairs-counted _ _ (c .before .before .before .before .before .before .before .before .before .before .pre .0) read)
+    pairs-counted _ _ (c .before .before .before .before .before .before .before .before .before .before .pre .0) (all-fits (c .before .before .before .before .before .before .before .before .before .before)) read
 
 pub count-run-spec : {M : Type 1} → statement M
 count-run-spec =

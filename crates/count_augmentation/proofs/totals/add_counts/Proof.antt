@@ -27,7 +27,7 @@ threshold-at-requires : tie.Need-threshold-at-requires Inv-loop μ-loop
 threshold-at-requires c κs = omega arith
 
 count-run-requires : tie.Need-count-run-requires Inv-loop μ-loop
-count-run-requires c κs = (c .before .before .before .before .before .before .before .before .before .before .pre .0 .runs, c .before .before .before .count-all .ensures)
+count-run-requires c κs = (c .before .before .before .before .before .before .before .before .before .before .pre .0, c .before .before .before .count-all .ensures)
 
 -- there is a total for the next threshold
 inside : (c : tie.In-loop Inv-loop μ-loop) → c .before .loop .k < length (c .before .loop .totals)
@@ -41,7 +41,7 @@ slice-read-totals c = search needs
 
 add-totals : tie.Need-add-totals Inv-loop μ-loop
 add-totals c =
-    omega (arith, c .before .before .before .before .loop .inv .1 .rest (c .before .before .before .before .loop .k) (omega arith), c .before .before .before .before .before .before .before .before .before .before .before .before .pre .1 .small (c .before .before .before .before .loop .k) (c .before .before .before .loop-test .taken), c .before .count-run .ensures .1 (c .before .before .before .before .before .before .before .before .before .before .before .before .pre .0 .stored) .1)
+    omega (arith, c .before .before .before .before .loop .inv .1 .rest (c .before .before .before .before .loop .k) (omega arith), c .before .before .before .before .before .before .before .before .before .before .before .before .pre .1 .small (c .before .before .before .before .loop .k) (c .before .before .before .loop-test .taken), c .before .count-run .ensures .0 .1)
 
 slice-write-totals : tie.Need-slice-write-totals Inv-loop μ-loop
 slice-write-totals c = search needs
@@ -55,7 +55,7 @@ loop-less c = search needs
 loop-again : tie.Need-loop-again Inv-loop μ-loop
 loop-again c = (
   omega (arith, c .before .before .before .loop-test .taken),
-  one-added (c .before .before .before .before .loop .inv .1) (omega (arith, inside (c .before .before .before), c .before .before .before .before .loop .inv .1 .long)) _ (c .before .count-run .ensures .0 ∙ ap (λ (t : ℕ). lookedUpPairs (c .before .before .before .before .before .before .before .before .before .before .before .before .args .g) t (c .before .before .before .before .before .before .before .before .before .before .before .before .args .from-offsets .now) (c .before .before .before .before .before .before .before .before .before .before .before .before .args .offsets .now) (c .before .before .before .before .before .before .before .before .before .before .before .before .args .near-first .now) (c .before .before .before .before .before .before .before .before .before .before .before .before .args .near-second .now)) (c .before .before .threshold-at .ensures)),
+  one-added (c .before .before .before .before .loop .inv .1) (omega (arith, inside (c .before .before .before), c .before .before .before .before .loop .inv .1 .long)) _ (c .before .count-run .ensures .0 .0 ∙ ap (λ (t : ℕ). lookedUpPairs (c .before .before .before .before .before .before .before .before .before .before .before .before .args .g) t (c .before .before .before .before .before .before .before .before .before .before .before .before .args .from-offsets .now) (c .before .before .before .before .before .before .before .before .before .before .before .before .args .offsets .now) (c .before .before .before .before .before .before .before .before .before .before .before .before .args .near-first .now) (c .before .before .before .before .before .before .before .before .before .before .before .before .args .near-second .now)) (c .before .before .threshold-at .ensures)),
 )
 
 same-length : tie.Need-same-length Inv-loop μ-loop
@@ -64,7 +64,7 @@ same-length c = c .before .loop .inv .1 .long
 returns : tie.Need-returns Inv-loop μ-loop
 returns c = (
   all-added (c .before .loop .inv .1) _ (c .loop-test .left),
-  all-reached (c .before .before .before .before .before .before .before .before .before .args .thresholds .now) (c .before .before .before .before .before .before .before .before .before .pre .0) (all-added (c .before .loop .inv .1) _ (c .loop-test .left)),
+  λ stored. all-reached (c .before .before .before .before .before .before .before .before .before .args .thresholds .now) (c .before .before .before .before .before .before .before .before .before .pre .0) stored (all-added (c .before .loop .inv .1) _ (c .loop-test .left)),
 )
 
 pub add-counts-spec : {M : Type 1} → statement M
