@@ -1,5 +1,6 @@
 -- One file to a concept.
 pub mod Verdict
+pub mod Kept
 pub mod Gathering
 pub mod Cuts
 pub mod Groups

@@ -21,10 +21,15 @@ pub record Markable (ends es wanted : List ℕ) : Type 0 where
   pub end-from : (k : ℕ) → k < length es → 1 ≤ endOf ends es k
   pub end-to : (k : ℕ) → k < length es → endOf ends es k ≤ length wanted
 
--- the ends of the first n events are marked, and earlier marks are kept
+-- no node is marked
+pub record Unmarked (wanted : List ℕ) : Type 0 where
+  pub none : (i : ℕ) → i < length wanted → getD wanted i 0 ≡ 0
+
+-- the ends of the first n events are marked, earlier marks are kept, and no other node is marked
 pub record Marked (ends es : List ℕ) (n : ℕ) (wanted wanted′ : List ℕ) : Type 0 where
   pub marks : (k : ℕ) → k < n → getD wanted′ (pred (endOf ends es k)) 0 ≡ 1
   pub keeps : (i : ℕ) → getD wanted i 0 ≡ 1 → getD wanted′ i 0 ≡ 1
+  pub others : (i : ℕ) → ((k : ℕ) → k < n → pred (endOf ends es k) ≡ i → ⊥) → getD wanted′ i 0 ≡ getD wanted i 0
 
 -- an accepted network, events on its edges, and room for every row
 pub record Endable (net : Network) (es table : List ℕ) : Type 0 where

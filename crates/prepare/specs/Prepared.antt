@@ -3,7 +3,7 @@
 use mathlib.Core.List.{List, [], _∷_, _++_, map}
 use mathlib.Core.Path.{_≡_}
 use Prim.Native.Nat.{ℕ, zero, suc, pred, _+_, _*_, _≤_, _<_}
-use lib.ListN.{length, getD, take}
+use lib.ListN.{length, getD, take, drop}
 use Rattle.model.specs.Counting.{sumBelow}
 use Rattle.model.specs.Distance.{code}
 use Rattle.model.specs.Events.{Event, event, events, having, sorted, setSize, setCount}
@@ -57,8 +57,7 @@ pub record Prepared (net : Network) (sets es xs ts edges offsets bounds setRuns 
   pub from-first : (k v : ℕ) → k < length es → IsNode net v → entry net table (first net (pred (getD es k 0))) v ≡ code (boundedDistance net (greatest ts) (first net (pred (getD es k 0))) v)
   pub from-second : (k v : ℕ) → k < length es → IsNode net v → entry net table (second net (pred (getD es k 0))) v ≡ code (boundedDistance net (greatest ts) (second net (pred (getD es k 0))) v)
 
--- the promise of preparing: its verdict, and on acceptance what the five lists hold then. They are working storage of the caller, so
--- what none of this speaks of is free
+-- the promise of preparing: its verdict, and on acceptance what the five lists hold then
 pub record Ready (net : Network) (sets es xs ts : List ℕ) (room : ℕ) (r : Check) (edges offsets bounds setRuns table : List ℕ) : Type 0 where
   pub verdict : r ≡ countsCheck net sets es xs ts room
   pub prepared : countsCheck net sets es xs ts room ≡ Accepted → Prepared net sets es xs ts edges offsets bounds setRuns table
@@ -66,3 +65,29 @@ pub record Ready (net : Network) (sets es xs ts : List ℕ) (room : ℕ) (r : Ch
 -- on refusal the five lists are left as they were
 pub record LeftOnRefusal (r : Check) (edges offsets bounds setRuns table edges′ offsets′ bounds′ setRuns′ table′ : List ℕ) : Type 0 where
   pub left : (number place : ℕ) → r ≡ Refused number place → (edges′ ≡ edges) × (offsets′ ≡ offsets) × (bounds′ ≡ bounds) × (setRuns′ ≡ setRuns) × (table′ ≡ table)
+
+-- a list's entries from n on are left as they were
+pub record KeptFrom (n : ℕ) (old new : List ℕ) : Type 0 where
+  pub kept : drop n new ≡ drop n old
+
+-- what stands behind the events, behind the end of the last run and behind the last set's end
+pub record LaidKept (sets es edges offsets bounds setRuns edges′ offsets′ bounds′ setRuns′ : List ℕ) : Type 0 where
+  pub edges-kept : KeptFrom (length es) edges edges′
+  pub offsets-kept : KeptFrom (length es) offsets offsets′
+  pub bounds-kept : KeptFrom (suc (getD setRuns′ (setCount sets) 0)) bounds bounds′
+  pub set-runs-kept : KeptFrom (suc (setCount sets)) setRuns setRuns′
+
+-- no event's edge ends at node u
+pub record NoEnd (net : Network) (es : List ℕ) (u : ℕ) : Type 0 where
+  pub no-first : (k : ℕ) → k < length es → first net (pred (getD es k 0)) ≡ u → ⊥
+  pub no-second : (k : ℕ) → k < length es → second net (pred (getD es k 0)) ≡ u → ⊥
+
+-- what stands behind the square of nodes, and the rows of nodes at which no event's edge ends
+pub record TableKept (net : Network) (es table table′ : List ℕ) : Type 0 where
+  pub behind : KeptFrom (net .nodes * net .nodes) table table′
+  pub other-rows : (u v : ℕ) → IsNode net u → IsNode net v → NoEnd net es u → entry net table′ u v ≡ entry net table u v
+
+-- on acceptance the five lists keep their surplus entries: what Prepared does not speak of is left as it was
+pub record SurplusKept (net : Network) (sets es : List ℕ) (r : Check) (edges offsets bounds setRuns table edges′ offsets′ bounds′ setRuns′ table′ : List ℕ) : Type 0 where
+  pub laid : r ≡ Accepted → LaidKept sets es edges offsets bounds setRuns edges′ offsets′ bounds′ setRuns′
+  pub table-kept : r ≡ Accepted → TableKept net es table table′

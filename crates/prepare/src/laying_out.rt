@@ -1,5 +1,6 @@
 // All sets laid out and cut into runs.
 ghost use Rattle.prepare.specs.Laying.{Layable, RunsLaid};
+ghost use Rattle.prepare.specs.Prepared.{LaidKept};
 use crate::SET_RUNS;
 use crate::runs::cut_sets;
 use crate::sets::lay_sets;
@@ -15,6 +16,7 @@ pub(crate) fn lay_runs(
 )
     requires { ⌜ Layable (now sets) (now edges) (now offsets) (now «laid_edges») (now «laid_offsets») (now bounds) (now «set_runs») ⌝ }
     ensures { λ _. ⌜ RunsLaid (now (sets .entry)) (now (edges .entry)) (now (offsets .entry)) (now («laid_edges» .exit)) (now («laid_offsets» .exit)) (now (bounds .exit)) (now («set_runs» .exit)) ⌝ }
+    ensures { λ _. ⌜ LaidKept (now (sets .entry)) (now (edges .entry)) (now («laid_edges» .entry)) (now («laid_offsets» .entry)) (now (bounds .entry)) (now («set_runs» .entry)) (now («laid_edges» .exit)) (now («laid_offsets» .exit)) (now (bounds .exit)) (now («set_runs» .exit)) ⌝ }
 {
     let count = validate::greatest_set(sets) as usize + 1;
     let mut starts = [0u32; SET_RUNS];

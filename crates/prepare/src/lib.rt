@@ -7,7 +7,7 @@ mod sets;
 mod ways;
 
 ghost use Rattle.model.specs.Network.{network};
-ghost use Rattle.prepare.specs.Prepared.{Ready, LeftOnRefusal};
+ghost use Rattle.prepare.specs.Prepared.{Ready, LeftOnRefusal, SurplusKept};
 use checks::check_counts;
 use ends::end_table;
 use laying_out::lay_runs;
@@ -37,8 +37,9 @@ pub type Table = [u32; TABLE];
 
 // Checks everything that a counting method is lent. On acceptance the laid-out lists hold the sets one after the other, each laid
 // out; bounds the places at which runs of events on one edge begin; set_runs the number of the run with which each set begins;
-// and table the leg-end distances; on refusal these five are left as they were. They are working storage of the caller: free is on
-// acceptance what stands behind the events, the runs and the sets, and rows of nodes at which no event's edge ends.
+// and table the leg-end distances; on refusal these five are left as they were. On acceptance they keep their surplus entries: what
+// stands behind the events, behind the ends of the last run and of the last set, and behind the square of nodes, and the rows of nodes
+// at which no event's edge ends.
 pub fn prepare(
     nodes: u32,
     firsts: &[u32],
@@ -57,6 +58,7 @@ pub fn prepare(
 ) -> Check
     ensures { λ r. ⌜ Ready (network nodes (now (firsts .entry)) (now (seconds .entry)) (now (lengths .entry))) (now (sets .entry)) (now (edges .entry)) (now (offsets .entry)) (now (thresholds .entry)) room r (now («laid_edges» .exit)) (now («laid_offsets» .exit)) (now (bounds .exit)) (now («set_runs» .exit)) (now (table .exit)) ⌝ }
     ensures { λ r. ⌜ LeftOnRefusal r (now («laid_edges» .entry)) (now («laid_offsets» .entry)) (now (bounds .entry)) (now («set_runs» .entry)) (now (table .entry)) (now («laid_edges» .exit)) (now («laid_offsets» .exit)) (now (bounds .exit)) (now («set_runs» .exit)) (now (table .exit)) ⌝ }
+    ensures { λ r. ⌜ SurplusKept (network nodes (now (firsts .entry)) (now (seconds .entry)) (now (lengths .entry))) (now (sets .entry)) (now (edges .entry)) r (now («laid_edges» .entry)) (now («laid_offsets» .entry)) (now (bounds .entry)) (now («set_runs» .entry)) (now (table .entry)) (now («laid_edges» .exit)) (now («laid_offsets» .exit)) (now (bounds .exit)) (now («set_runs» .exit)) (now (table .exit)) ⌝ }
 {
     let verdict = check_counts(
         nodes,

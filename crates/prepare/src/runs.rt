@@ -1,8 +1,9 @@
 // Laid-out events cut into runs on one edge of one set.
 ghost use mathlib.Core.Path.{_≡_};
-ghost use Prim.Native.Nat.{_≤_, _<_};
-ghost use lib.ListN.{length};
+ghost use Prim.Native.Nat.{suc, _≤_, _<_};
+ghost use lib.ListN.{length, getD};
 ghost use Rattle.prepare.specs.Cutting.{endsRun, Cuttable, CutTo, Startable, SetsCut};
+ghost use Rattle.prepare.specs.Prepared.{KeptFrom};
 
 // A run ends at a place: the events end there, or the edge changes.
 fn ends_run(edges: &[u32], to: usize, k: usize) -> bool
@@ -19,6 +20,7 @@ fn ends_run(edges: &[u32], to: usize, k: usize) -> bool
 fn cut(edges: &[u32], from: usize, to: usize, bounds: &mut [u32], runs: usize) -> usize
     requires { ⌜ Cuttable (now edges) (now bounds) runs from to ⌝ }
     ensures { λ r. ⌜ CutTo (now (edges .entry)) (now (bounds .entry)) runs to r (now (bounds .exit)) ⌝ }
+    ensures { λ r. ⌜ KeptFrom (suc r) (now (bounds .entry)) (now (bounds .exit)) ⌝ }
 {
     let mut r = runs;
     let mut k = from;
@@ -42,6 +44,7 @@ pub(crate) fn cut_sets(
 )
     requires { ⌜ Startable (now starts) (now edges) (now bounds) (now «set_runs») count ⌝ }
     ensures { λ _. ⌜ SetsCut (now (starts .entry)) (now (edges .entry)) (now (bounds .exit)) (now («set_runs» .exit)) count ⌝ }
+    ensures { λ _. ⌜ KeptFrom (suc (getD (now («set_runs» .exit)) count 0)) (now (bounds .entry)) (now (bounds .exit)) × KeptFrom (suc count) (now («set_runs» .entry)) (now («set_runs» .exit)) ⌝ }
 {
     bounds[0] = 0;
     set_runs[0] = 0;

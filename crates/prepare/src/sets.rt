@@ -3,12 +3,14 @@ ghost use Prim.Native.Nat.{_≤_};
 ghost use lib.ListN.{length};
 ghost use Rattle.model.specs.Events.{setSize};
 ghost use Rattle.prepare.specs.Laying.{Gathered, SetFits, SetLaid, SetsFit, SetsLaid};
+ghost use Rattle.prepare.specs.Prepared.{startOf, KeptFrom};
 ghost use mathlib.Core.Path.{_≡_};
 
 // Copies what stands beside a set's number to the front of a list, in order, and gives how much that is.
 fn gather(sets: &[u32], values: &[u32], set: u32, out: &mut [u32]) -> usize
     requires { ⌜ (length (now sets) ≡ length (now values)) × (setSize (now sets) set ≤ length (now out)) ⌝ }
     ensures { λ r. ⌜ Gathered (now (sets .entry)) (now (values .entry)) set r (now (out .exit)) ⌝ }
+    ensures { λ r. ⌜ KeptFrom r (now (out .entry)) (now (out .exit)) ⌝ }
 {
     let mut n = 0;
     let mut k = 0;
@@ -33,6 +35,7 @@ fn lay_set(
 ) -> usize
     requires { ⌜ SetFits (now sets) (now edges) (now offsets) set (now «laid_edges») (now «laid_offsets») ⌝ }
     ensures { λ r. ⌜ SetLaid (now (sets .entry)) (now (edges .entry)) (now (offsets .entry)) set r (now («laid_edges» .exit)) (now («laid_offsets» .exit)) ⌝ }
+    ensures { λ r. ⌜ KeptFrom r (now («laid_edges» .entry)) (now («laid_edges» .exit)) × KeptFrom r (now («laid_offsets» .entry)) (now («laid_offsets» .exit)) ⌝ }
 {
     gather(sets, edges, set, laid_edges);
     let n = gather(sets, offsets, set, laid_offsets);
@@ -52,6 +55,7 @@ pub(crate) fn lay_sets(
 )
     requires { ⌜ SetsFit (now sets) (now edges) (now offsets) count (now «laid_edges») (now «laid_offsets») (now starts) ⌝ }
     ensures { λ _. ⌜ SetsLaid (now (sets .entry)) (now (edges .entry)) (now (offsets .entry)) count (now («laid_edges» .exit)) (now («laid_offsets» .exit)) (now (starts .exit)) ⌝ }
+    ensures { λ _. ⌜ KeptFrom (startOf (now (sets .entry)) count) (now («laid_edges» .entry)) (now («laid_edges» .exit)) × KeptFrom (startOf (now (sets .entry)) count) (now («laid_offsets» .entry)) (now («laid_offsets» .exit)) ⌝ }
 {
     starts[0] = 0;
     let mut start = 0;

@@ -1,9 +1,10 @@
 -- The rows of the ends of the events' edges: marked, searched and found in the table.
 use mathlib.Core.List.{List, _++_}
 use mathlib.Core.Path.{_≡_, ap, _∙_}
-use Prim.Native.Nat.{ℕ, pred, _<_}
+use Prim.Native.Nat.{ℕ, pred, _*_, _<_}
 use native.Mathlib.Omega.{arith}
 use lib.ListN.{length, getD, drop}
+use lib.Seq.{drop-at}
 use borrow.Author.Tests.{eq-eqb, le-leb}
 use Rattle.distance.specs.Answers.{table, tableCheck, TableAnswered}
 use Rattle.model.proofs.Laws.Answer.{written-is}
@@ -14,9 +15,9 @@ use Rattle.model.specs.Network.{Network, IsNode, edges}
 use Rattle.model.specs.Refusal.{listsDiffer}
 use Rattle.model.specs.declared.check.Check.{Check}
 use Rattle.model.specs.declared.check.Check.the-variants.{Accepted}
-use Rattle.prepare.specs.Marking.{endOf, Markable, Marked, Endable, Filled, EndsFilled}
-use Rattle.prepare.specs.Prepared.{entry}
-use Rattle.prepare.proofs.Laws.Table.{table-entry}
+use Rattle.prepare.specs.Marking.{endOf, Markable, Unmarked, Marked, Endable, Filled, EndsFilled}
+use Rattle.prepare.specs.Prepared.{entry, NoEnd, TableKept}
+use Rattle.prepare.proofs.Laws.Table.{table-length, table-entry, table-other}
 
 module _ (net : Network) (es table₀ : List ℕ) (asked : Endable net es table₀) where
   pub is-network : IsNetwork net
@@ -40,7 +41,7 @@ module _ (net : Network) (es table₀ : List ℕ) (asked : Endable net es table�
         → table′ ≡ table net bound wanted table₀ ++ rest → Filled net ends es bound table′
     filled bound wanted rest table′ marks e k v h node =
         ap (λ (l : List ℕ). entry net l (endOf ends es k) v) e
-        ∙ table-entry net bound wanted table₀ (asked .room) (endOf ends es k) v (end-is-node k h) node (λ z. omega (arith, marks k h)) rest
+        ∙ table-entry net bound wanted table₀ (asked .room) (endOf ends es k) v (end-is-node k h) node rest (λ z. omega (arith, marks k h))
 
   table-accepts : (wanted : List ℕ) → length wanted ≡ net .nodes → tableCheck net wanted table₀ ≡ Accepted
   unfolding tableCheck networkCheck roomCheck
@@ -50,13 +51,31 @@ module _ (net : Network) (es table₀ : List ℕ) (asked : Endable net es table�
       (both-accept (unless-accepts _ listsDiffer 0 (eq-eqb _ _ e))
       (both-accept (unless-accepts _ listsDiffer 0 (le-leb _ _ (asked .room))) (both .1)))
 
-  pub ends-filled : (bound : ℕ) (wanted first-marked wanted′ : List ℕ) (r : Check) (table′ : List ℕ)
-      → Marked (net .firsts) es (length es) wanted first-marked → Marked (net .seconds) es (length es) first-marked wanted′ → length wanted′ ≡ net .nodes
-      → TableAnswered net bound wanted′ table₀ r table′ → EndsFilled net es bound table′
-  ends-filled bound wanted first-marked wanted′ r table′ firsts seconds e answered =
-      let n = is-network in
-      let whole = answered .after ∙ written-is (table net bound wanted′ table₀) table₀ (table-accepts wanted′ e) in
-      record {
-        from-first = filled (net .firsts) (n .firsts-length) (n .ends .first-is) bound wanted′ _ table′ (λ k h. seconds .keeps _ (firsts .marks k h)) whole;
-        from-second = filled (net .seconds) (n .seconds-length) (n .ends .second-is) bound wanted′ _ table′ (seconds .marks) whole;
-      }
+  module _ {bound : ℕ} {wanted first-marked wanted′ : List ℕ} {r : Check} {table′ : List ℕ} (firsts : Marked (net .firsts) es (length es) wanted first-marked)
+      (seconds : Marked (net .seconds) es (length es) first-marked wanted′) (long : length wanted′ ≡ net .nodes) (answered : TableAnswered net bound wanted′ table₀ r table′) where
+    whole : table′ ≡ table net bound wanted′ table₀ ++ drop (length (table net bound wanted′ table₀)) table₀
+    whole = answered .after ∙ written-is (table net bound wanted′ table₀) table₀ (table-accepts wanted′ long)
+
+    pub ends-filled : EndsFilled net es bound table′
+    ends-filled =
+        let n = is-network in
+        record {
+          from-first = filled (net .firsts) (n .firsts-length) (n .ends .first-is) bound wanted′ _ table′ (λ k h. seconds .keeps _ (firsts .marks k h)) whole;
+          from-second = filled (net .seconds) (n .seconds-length) (n .ends .second-is) bound wanted′ _ table′ (seconds .marks) whole;
+        }
+
+    -- a node that is no end is not marked
+    not-marked : Unmarked wanted → length wanted ≡ net .nodes → (u : ℕ) → IsNode net u → NoEnd net es u → getD wanted′ (pred u) 0 ≡ 0
+    not-marked unmarked e u node none =
+        let n = is-network in
+        seconds .others (pred u) (λ k h same. none .no-second k h (omega (arith, same, node .from-one, end-is-node (net .seconds) (n .seconds-length) (n .ends .second-is) k h .from-one)))
+        ∙ firsts .others (pred u) (λ k h same. none .no-first k h (omega (arith, same, node .from-one, end-is-node (net .firsts) (n .firsts-length) (n .ends .first-is) k h .from-one)))
+        ∙ unmarked .none (pred u) (omega (arith, node .from-one, node .to-nodes))
+
+    pub table-kept : Unmarked wanted → length wanted ≡ net .nodes → TableKept net es table₀ table′
+    table-kept unmarked e =
+        let square = table-length net bound wanted′ table₀ (asked .room) in
+        record {
+          behind = record { kept = ap (drop (net .nodes * net .nodes)) whole ∙ drop-at (table net bound wanted′ table₀) _ _ square ∙ ap (λ (n : ℕ). drop n table₀) square };
+          other-rows = λ u v nu nv none. ap (λ (l : List ℕ). entry net l u v) whole ∙ table-other net bound wanted′ table₀ (asked .room) u v nu nv _ (not-marked unmarked e u nu none);
+        }

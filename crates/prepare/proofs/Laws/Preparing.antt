@@ -12,7 +12,7 @@ use Rattle.model.specs.Network.{Network}
 use Rattle.prepare.specs.Cutting.{Startable, SetsCut}
 use Rattle.prepare.specs.Laying.{SetsFit, SetsLaid, Layable, RunsLaid}
 use Rattle.prepare.specs.Marking.{Endable, EndsFilled}
-use Rattle.prepare.specs.Prepared.{grouped, startOf, greatest, Prepared}
+use Rattle.prepare.specs.Prepared.{grouped, startOf, greatest, Prepared, KeptFrom, LaidKept}
 use Rattle.prepare.proofs.Laws.Cuts.{run-changes, bounds-climb}
 use Rattle.prepare.proofs.Laws.Groups.{start-first, start-next, starts-rise, events-total}
 
@@ -106,6 +106,10 @@ module _ (sets es xs edges offsets bounds setRuns : List ℕ) (asked : Layable s
             few = omega (arith, cut .cut .few, cut .set-begins (setCount sets) (omega arith), start-at (setCount sets) (omega arith));
           };
         }
+
+  -- behind the events are the entries behind all sets
+  pub laid-kept : {edges′ offsets′ bounds′ setRuns′ : List ℕ} → KeptFrom (startOf sets (setCount sets)) edges edges′ → KeptFrom (startOf sets (setCount sets)) offsets offsets′ → KeptFrom (suc (getD setRuns′ (setCount sets) 0)) bounds bounds′ → KeptFrom (suc (setCount sets)) setRuns setRuns′ → LaidKept sets es edges offsets bounds setRuns edges′ offsets′ bounds′ setRuns′
+  laid-kept e o b r = record { edges-kept = rw (← all-events) e; offsets-kept = rw (← all-events) o; bounds-kept = b; set-runs-kept = r }
 
 -- everything together
 pub prepared : (net : Network) (sets es xs ts edges offsets bounds setRuns table : List ℕ) → RunsLaid sets es xs edges offsets bounds setRuns

@@ -7,8 +7,8 @@ use native.Mathlib.Nat.{mul-le-mul-right, suc-mul}
 use native.Mathlib.Omega.{arith}
 use lib.Dec.{eqb}
 use lib.ListN.{length, getD, take, drop, length-append, length-drop, List·getD-append}
-use lib.Seq.{getD-append-add, length-take-le}
-use borrow.Author.Tests.{ne-eqb}
+use lib.Seq.{getD-append-add, getD-take, getD-drop, length-take-le}
+use borrow.Author.Tests.{eq-eqb, ne-eqb}
 use Rattle.distance.proofs.Laws.Rows.{row-length, row-at}
 use Rattle.distance.specs.Answers.{distanceRow, tableRows, table}
 use Rattle.model.specs.Distance.{code}
@@ -57,15 +57,32 @@ module _ (net : Network) (bound : ℕ) (wanted old : List ℕ) where
         ∙ rows-entry more (suc u) j i (omega arith) (omega arith) (omega arith) k
         ∙ ap (λ (n : ℕ). getD (rowOf n) i 0) same)
 
-    pub table-entry : (u v : ℕ) → IsNode net u → IsNode net v → (getD wanted (pred u) 0 ≡ 0 → ⊥)
-        → (rest : List ℕ) → entry net (table net bound wanted old ++ rest) u v ≡ code (boundedDistance net bound u v)
-    unfolding table entry
-    table-entry u v nu nv is rest =
-        let low = nu .from-one in
-        let same : 1 + pred u ≡ u = omega arith in
-        let inside : pred v < net .nodes = omega (arith, nv .from-one, nv .to-nodes) in
-        List·getD-append (tableRows net bound wanted old 1 (net .nodes)) rest 0 (pred u * net .nodes + pred v)
-        (omega (arith, rows-length (net .nodes) 1 (omega arith) (omega arith), rows-fit (pred u) (omega (arith, nu .to-nodes)), suc-mul (pred u) (net .nodes)))
-        ∙ rows-entry (net .nodes) 1 (pred u) (pred v) (omega arith) (omega arith) (omega (arith, nu .to-nodes)) inside
-        ∙ ap (λ (n : ℕ). getD (rowOf n) (pred v) 0) same
-        ∙ simp (ne-eqb _ _ is) (row-at net bound u v nv)
+    -- the square
+    pub table-length : length (table net bound wanted old) ≡ net .nodes * net .nodes
+    unfolding table
+    table-length = rows-length (net .nodes) 1 (omega arith) (omega arith)
+
+    module _ (u v : ℕ) (nu : IsNode net u) (nv : IsNode net v) (rest : List ℕ) where
+      inside : pred v < net .nodes
+      inside = omega (arith, nv .from-one, nv .to-nodes)
+
+      in-row : entry net (table net bound wanted old ++ rest) u v ≡ getD (rowOf u) (pred v) 0
+      unfolding table entry
+      in-row =
+          let low = nu .from-one in
+          let same : 1 + pred u ≡ u = omega arith in
+          List·getD-append (tableRows net bound wanted old 1 (net .nodes)) rest 0 (pred u * net .nodes + pred v)
+          (omega (arith, inside, rows-length (net .nodes) 1 (omega arith) (omega arith), rows-fit (pred u) (omega (arith, nu .to-nodes)), suc-mul (pred u) (net .nodes)))
+          ∙ rows-entry (net .nodes) 1 (pred u) (pred v) (omega arith) (omega arith) (omega (arith, nu .to-nodes)) inside
+          ∙ ap (λ (n : ℕ). getD (rowOf n) (pred v) 0) same
+
+      -- a wanted row, and another
+      pub table-entry : (getD wanted (pred u) 0 ≡ 0 → ⊥) → entry net (table net bound wanted old ++ rest) u v ≡ code (boundedDistance net bound u v)
+      table-entry is = in-row ∙ simp (ne-eqb _ _ is) (row-at net bound u v nv)
+
+      pub table-other : getD wanted (pred u) 0 ≡ 0 → entry net (table net bound wanted old ++ rest) u v ≡ entry net old u v
+      unfolding entry
+      table-other is =
+          in-row
+          ∙ simp (eq-eqb _ _ is)
+          (getD-take (net .nodes) (drop (pred u * net .nodes) old) (pred v) 0 inside ∙ getD-drop (pred u * net .nodes) old (pred v) 0)

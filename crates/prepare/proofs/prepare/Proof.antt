@@ -23,7 +23,10 @@ enum-told c = search needs
 returns : tie.Need-returns
 returns c =
     let checked = c .before .before .check-counts .ensures in
-    (record { verdict = checked; prepared = λ e. not-accepted (sym (c .enum-told .given .1) ∙ checked ∙ e) }, record { left = λ _ _ _. (refl, refl, refl, refl, refl) })
+    let refused = sym (c .enum-told .given .1) in (
+      record { verdict = checked; prepared = λ e. not-accepted (refused ∙ checked ∙ e) },
+      (record { left = λ _ _ _. (refl, refl, refl, refl, refl) }, record { laid = λ e. not-accepted (refused ∙ e); table-kept = λ e. not-accepted (refused ∙ e) }),
+    )
 
 enum-told-2 : tie.Need-enum-told-2
 enum-told-2 c = search needs
@@ -53,9 +56,9 @@ unfolding greatest
 returns-2 c = (
   record {
     verdict = c .before .before .before .before .before .before .before .before .before .before .check-counts .ensures;
-    prepared = λ _. prepared _ _ _ _ _ _ _ _ _ _ (c .before .before .lay-runs .ensures) (rw sub-one at (c .end-table .ensures));
+    prepared = λ _. prepared _ _ _ _ _ _ _ _ _ _ (c .before .before .lay-runs .ensures .0) (rw sub-one at (c .end-table .ensures .0));
   },
-  record { left = λ _ _ e. not-accepted (sym e ∙ c .before .before .before .before .before .before .before .before .enum-told2 .given .1) },
+  (record { left = λ _ _ e. not-accepted (sym e ∙ c .before .before .before .before .before .before .before .before .enum-told2 .given .1) }, record { laid = λ _. c .before .before .lay-runs .ensures .1; table-kept = λ _. c .end-table .ensures .1 }),
 )
 
 pub prepare-spec : {M : Type 1} → statement M

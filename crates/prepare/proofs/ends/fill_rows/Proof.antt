@@ -1,6 +1,6 @@
 -- Both ends of every event's edge are marked, so their rows are searched for.
 use mathlib.Core.Path.{_∙_}
-use Rattle.prepare.proofs.Laws.Ends.{is-network, markable, ends-filled}
+use Rattle.prepare.proofs.Laws.Ends.{is-network, markable, ends-filled, table-kept}
 use borrow.Author.Needs.{needs}
 use Rattle.prepare.proofs.ends.fill_rows.Statement.{statement}
 use Rattle.prepare.proofs.ends.fill_rows.Tie as tie
@@ -31,7 +31,9 @@ returns c =
     let pre = c .before .before .before .before .before .before .before .before .before .before .before .before .before .before .before .before .before .before .before .pre in
     let first = c .before .before .before .before .before .before .before .before .before .before .before .mark in
     let second = c .before .before .before .before .before .before .before .mark2 in
-    ends-filled _ _ _ (pre .0) _ _ _ _ _ _ (first .ensures) (second .ensures) (second .kept .1 .1 .0 ∙ first .kept .1 .1 .0 ∙ pre .1) (c .before .before .end-distances .ensures)
+    let long = second .kept .1 .1 .0 ∙ first .kept .1 .1 .0 ∙ pre .1 in
+    let answered = c .before .before .end-distances .ensures in
+    (ends-filled _ _ _ (pre .0) (first .ensures) (second .ensures) long answered, table-kept _ _ _ (pre .0) (first .ensures) (second .ensures) long answered (pre .2) (pre .1))
 
 pub fill-rows-spec : {M : Type 1} → statement M
 fill-rows-spec =

@@ -3,7 +3,7 @@ use mathlib.Core.Path.{_≡_, refl, ap, _∙_}
 use Prim.Native.Nat.{suc, _+_}
 use native.Mathlib.Numerals.{add-one}
 use Rattle.model.specs.Events.{setCount}
-use Rattle.prepare.proofs.Laws.Preparing.{sets-fit, startable, runs-laid}
+use Rattle.prepare.proofs.Laws.Preparing.{sets-fit, startable, runs-laid, laid-kept}
 use borrow.Author.Needs.{needs}
 use Rattle.prepare.proofs.laying_out.lay_runs.Statement.{statement}
 use Rattle.prepare.proofs.laying_out.lay_runs.Tie as tie
@@ -39,7 +39,7 @@ cut-sets-requires c κs =
     let start = c .before .before .before .before .before .before .before .before .before .before .before .before .before .before .before .before .before .before .before .before .before in
     let laid = c .before .before .before .before .before .before .before .before .before .lay-sets in
     let count = set-count (c .before .before .before .before .before .before .before .before .before .before .before .before .before) in
-    rw count (startable _ _ _ _ _ _ _ (start .pre) _ _ _ (rw count at (laid .ensures)) (laid .kept .1 .1 .1 .1 .0) (laid .kept .1 .1 .1 .1 .1 .1 .0))
+    rw count (startable _ _ _ _ _ _ _ (start .pre) _ _ _ (rw count at (laid .ensures .0)) (laid .kept .1 .1 .1 .1 .0) (laid .kept .1 .1 .1 .1 .1 .1 .0))
 
 same-length : tie.Need-same-length
 same-length c = search needs
@@ -58,7 +58,10 @@ returns c =
     let start = c .before .before .before .before .before .before .before .before .before .before .before .before .before .before .before .before .before .before .before .before .before .before .before .before .before .before in
     let laid = c .before .before .before .before .before .before .before .before .before .before .before .before .before .before .lay-sets in
     let count = set-count (c .before .before .before .before .before .before .before .before .before .before .before .before .before .before .before .before .before .before) in
-    runs-laid _ _ _ _ _ _ _ (start .pre) _ _ _ (rw count at (laid .ensures)) _ _ (rw count at (c .before .before .before .before .cut-sets .ensures))
+    let cut = c .before .before .before .before .cut-sets in (
+      runs-laid _ _ _ _ _ _ _ (start .pre) _ _ _ (rw count at (laid .ensures .0)) _ _ (rw count at (cut .ensures .0)),
+      laid-kept _ _ _ _ _ _ _ (start .pre) (rw count at (laid .ensures .1 .0)) (rw count at (laid .ensures .1 .1)) (rw count at (cut .ensures .1 .0)) (rw count at (cut .ensures .1 .1)),
+    )
 
 pub lay-runs-spec : {M : Type 1} → statement M
 lay-runs-spec =

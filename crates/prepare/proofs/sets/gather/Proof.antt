@@ -5,18 +5,20 @@ use Prim.Native.Nat.{_-_, _≤_}
 use native.Mathlib.Omega.{arith}
 use borrow.Author.Needs.{needs}
 use lib.ListN.{length, length-set}
+use Rattle.prepare.specs.Prepared.{KeptFrom}
+use Rattle.prepare.proofs.Laws.Kept.{kept-all, kept-later, kept-set}
 use Rattle.prepare.proofs.Laws.Gathering.{Gathering, gather-begins, room-left, gather-takes, gather-passes, gather-ends}
 use Rattle.prepare.proofs.sets.gather.Statement.{statement}
 use Rattle.prepare.proofs.sets.gather.Tie as tie
 
 abbrev Inv-loop : tie.InvT-loop
-Inv-loop sets values set out₀ n₀ k₀ out n k = (k ≤ length sets) × (length out ≡ length out₀) × Gathering sets values set n k out
+Inv-loop sets values set out₀ n₀ k₀ out n k = (k ≤ length sets) × (length out ≡ length out₀) × Gathering sets values set n k out × KeptFrom n out₀ out
 
 abbrev μ-loop : tie.MeasureT-loop
 μ-loop sets values set out₀ n₀ k₀ out n k = length sets - k
 
 loop-holds : tie.Need-loop-holds Inv-loop μ-loop
-loop-holds c = (omega arith, refl, gather-begins _ _ _ _)
+loop-holds c = (omega arith, refl, gather-begins _ _ _ _, kept-all _ _)
 
 mul-if1 : tie.Need-mul-if1 Inv-loop μ-loop
 mul-if1 c = search needs
@@ -48,19 +50,20 @@ loop-less c = search needs
 loop-again : tie.Need-loop-again Inv-loop μ-loop
 loop-again c =
     let inv = c .before .before .before .loop .inv .2 in
+    let behind = c .before .before .before .loop .inv .3 in
     ⊎-elim
     (λ w.
     let long : length (c .if1 .out) ≡ length (c .before .before .before .loop .out) = ap length (w .2) ∙ simp length-set in
     let in-room = room-left _ _ _ _ _ _ (omega arith) (omega arith) inv (w .0 .taken) in
-    (omega arith, omega arith, rw (w .2, w .3) (gather-takes _ _ _ _ _ _ (omega arith) (omega arith) inv (w .0 .taken) (omega arith))))
-    (λ w. (omega arith, omega (arith, ap length (w .1)), rw (w .1, w .2) (gather-passes _ _ _ _ _ _ (omega arith) (omega arith) inv (w .0 .left))))
+    (omega arith, omega arith, rw (w .2, w .3) (gather-takes _ _ _ _ _ _ (omega arith) (omega arith) inv (w .0 .taken) (omega arith)), rw (w .2, w .3) (kept-set _ _ (omega arith) (kept-later _ (omega arith) behind))))
+    (λ w. (omega arith, omega (arith, ap length (w .1)), rw (w .1, w .2) (gather-passes _ _ _ _ _ _ (omega arith) (omega arith) inv (w .0 .left)), rw (w .1, w .2) behind))
     (c .if1 .came)
 
 same-length : tie.Need-same-length Inv-loop μ-loop
 same-length c = search needs
 
 returns : tie.Need-returns Inv-loop μ-loop
-returns c = gather-ends _ _ _ _ _ _ (omega arith) (c .before .loop .inv .2)
+returns c = (gather-ends _ _ _ _ _ _ (omega arith) (c .before .loop .inv .2), c .before .loop .inv .3)
 
 pub gather-spec : {M : Type 1} → statement M
 gather-spec =

@@ -5,7 +5,8 @@ use borrow.Author.Needs.{needs}
 use lib.ListN.{length, length-set}
 use Rattle.model.specs.Events.{setSize}
 use Rattle.prepare.specs.Laying.{SetsLaid}
-use Rattle.prepare.specs.Prepared.{startOf}
+use Rattle.prepare.specs.Prepared.{startOf, KeptFrom}
+use Rattle.prepare.proofs.Laws.Kept.{kept-all, part-behind}
 use Rattle.prepare.proofs.Laws.Groups.{start-first}
 use Rattle.prepare.proofs.Laws.Laying.{none-laid, set-end, set-fits, next-start, next-laid}
 use borrow.Rule.Slice.PartMut.{same-len-mid}
@@ -21,6 +22,8 @@ Inv-loop sets edges offsets count laid-edges₀ laid-offsets₀ starts₀ start�
     × (start ≡ startOf sets s)
     × (start ≤ startOf sets count)
     × SetsLaid sets edges offsets s laid-edges laid-offsets starts
+    × KeptFrom start laid-edges₀ laid-edges
+    × KeptFrom start laid-offsets₀ laid-offsets
 
 abbrev μ-loop : tie.MeasureT-loop
 μ-loop sets edges offsets count laid-edges₀ laid-offsets₀ starts₀ start₀ s₀ laid-edges laid-offsets starts start s = count - s
@@ -38,7 +41,7 @@ slice-write-starts c = search needs
 loop-holds : tie.Need-loop-holds Inv-loop μ-loop
 loop-holds c =
     let start = c .before .before .before .before .before .before in
-    (refl, refl, refl, omega arith, sym (start-first _), omega arith, none-laid _ _ _ _ _ (start .args .starts .now) (omega arith))
+    (refl, refl, refl, omega arith, sym (start-first _), omega arith, none-laid _ _ _ _ _ (start .args .starts .now) (omega arith), kept-all _ _, kept-all _ _)
 
 cast-lay-set : tie.Need-cast-lay-set Inv-loop μ-loop
 cast-lay-set c = search needs
@@ -80,7 +83,7 @@ add-start c =
     omega (
       arith,
       start .pre .few,
-      c .before .before .before .before .lay-set .ensures .many,
+      c .before .before .before .before .lay-set .ensures .0 .many,
       set-end _ _ _ _ _ _ _ (start .pre) _ _ _ _ _ (loop .inv .0) (loop .inv .1) (loop .inv .2 ∙ simp length-set) (loop .inv .4) (loop .inv .6) (omega arith),
     )
 
@@ -94,7 +97,7 @@ cast-starts c =
     omega (
       arith,
       start .pre .few,
-      c .before .before .before .before .lay-set .ensures .many,
+      c .before .before .before .before .lay-set .ensures .0 .many,
       set-end _ _ _ _ _ _ _ (start .pre) _ _ _ _ _ (loop .inv .0) (loop .inv .1) (loop .inv .2 ∙ simp length-set) (loop .inv .4) (loop .inv .6) (omega arith),
     )
 
@@ -118,10 +121,12 @@ loop-again c =
       simp length-set (loop .inv .2 ∙ simp length-set),
       omega arith,
       next-start _ _ _ _ _ _ _ (start .pre) _ _ _ _ _ (loop .inv .0) (loop .inv .1) (loop .inv .2 ∙ simp length-set) (loop .inv .4) (loop .inv .6) (omega arith) _ _ _
-          (laid .kept .1 .1 .1 .1 .0) (laid .kept .1 .1 .1 .1 .1 .0) (laid .ensures),
-      omega (arith, laid .ensures .many),
+          (laid .kept .1 .1 .1 .1 .0) (laid .kept .1 .1 .1 .1 .1 .0) (laid .ensures .0),
+      omega (arith, laid .ensures .0 .many),
       next-laid _ _ _ _ _ _ _ (start .pre) _ _ _ _ _ (loop .inv .0) (loop .inv .1) (loop .inv .2 ∙ simp length-set) (loop .inv .4) (loop .inv .6) (omega arith) _ _ _
-          (laid .kept .1 .1 .1 .1 .0) (laid .kept .1 .1 .1 .1 .1 .0) (laid .ensures),
+          (laid .kept .1 .1 .1 .1 .0) (laid .kept .1 .1 .1 .1 .1 .0) (laid .ensures .0),
+      part-behind (loop .start) (laid .result) (loop .laid-edges) (omega (arith, laid .ensures .0 .many)) (laid .kept .1 .1 .1 .1 .0) (loop .inv .7) (laid .ensures .1 .0),
+      part-behind (loop .start) (laid .result) (loop .laid-offsets) (omega (arith, laid .ensures .0 .many)) (laid .kept .1 .1 .1 .1 .1 .0) (loop .inv .8) (laid .ensures .1 .1),
     )
 
 same-length : tie.Need-same-length Inv-loop μ-loop
@@ -134,7 +139,8 @@ same-length-3 : tie.Need-same-length-3 Inv-loop μ-loop
 same-length-3 c = c .before .loop .inv .2 ∙ simp length-set
 
 returns : tie.Need-returns Inv-loop μ-loop
-returns c = let last : c .before .loop .s ≡ c .before .before .before .before .before .before .before .before .args .count = omega arith in rw (← last) (c .before .loop .inv .6)
+returns c = let last : c .before .loop .s ≡ c .before .before .before .before .before .before .before .before .args .count = omega arith in
+    (rw (← last) (c .before .loop .inv .6), rw (← last, ← c .before .loop .inv .4) (c .before .loop .inv .7, c .before .loop .inv .8))
 
 pub lay-sets-spec : {M : Type 1} → statement M
 lay-sets-spec =
