@@ -6,6 +6,10 @@ use native.Mathlib.Omega.{arith}
 use borrow.Author.Tests.{eq-eqb, ne-eqb}
 use Rattle.prepare.specs.Ways.{far, way}
 
+-- what stands for no way is beyond every threshold
+pub far-beyond : (t : ℕ) → t < 4294967296 → t < far
+far-beyond t h = omega arith
+
 -- no way
 pub way-none : (code : ℕ) → code ≡ 0 → way code ≡ far
 unfolding way

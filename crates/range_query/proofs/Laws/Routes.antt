@@ -17,6 +17,7 @@ use Rattle.model.proofs.Laws.Routes.{reaches-code, event-within}
 use Rattle.model.proofs.Laws.Within.{within-least}
 use Rattle.prepare.specs.Prepared.{entry}
 use Rattle.prepare.specs.Ways.{far, way}
+use Rattle.prepare.proofs.Laws.Ways.{far-beyond}
 use Rattle.range_query.specs.Metres.{meet, metres, toFirst, toSecond, placeOn, between, edgePair}
 use Rattle.range_query.specs.declared.metres.EdgePair.{EdgePair}
 
@@ -62,7 +63,7 @@ module _ (net : Network) (ends : EndsAreNodes net) (table : List ℕ) (e f : Eve
   unfolding between
   by-route s s′ =
       ap (λ c. leb (gap (size net (pred (e .edge))) s (e .offset) + way c + gap (size net (pred (f .edge))) s′ (f .offset)) t) (codes s s′)
-      ∙ route-metres t (gap (size net (pred (e .edge))) s (e .offset)) (boundedDistance net bound (endNode net (pred (e .edge)) s) (endNode net (pred (f .edge)) s′)) (gap (size net (pred (f .edge))) s′ (f .offset)) (omega arith)
+      ∙ route-metres t (gap (size net (pred (e .edge))) s (e .offset)) (boundedDistance net bound (endNode net (pred (e .edge)) s) (endNode net (pred (f .edge)) s′)) (gap (size net (pred (f .edge))) s′ (f .offset)) (far-beyond t small)
 
   -- so the metres are tested as the distance is
   pub metres-within : leb (metres (edgePair net table (pred (e .edge)) (pred (f .edge))) (e .offset) (f .offset)) t ≡ within (eventDistance net e f) t
