@@ -123,6 +123,24 @@ fn bucket_by_few(steps: &[u32; LADDER], shift: u32, cap: u64, greatest: u64, d: 
     if greatest < d { STEPS } else { found }
 }
 
+// The same by cells of one step each, or of a few.
+fn bucket_in_cells(
+    steps: &[u32; LADDER],
+    alone: bool,
+    shift: u32,
+    cap: u64,
+    greatest: u64,
+    d: u64,
+) -> usize
+    requires { ⌜ Steps (now steps) × CellsAsked (now steps) (cond alone 1 7) shift cap × (greatest ≡ getD (now steps) lastStep 0) ⌝ }
+    ensures { λ r. ⌜ Bucket (now (steps .entry)) d r ⌝ }
+{
+    if alone {
+        return bucket_by_cell(steps, shift, cap, greatest, d);
+    }
+    bucket_by_few(steps, shift, cap, greatest, d)
+}
+
 // The number of steps that do not admit d, asked for once: by its cell where cells have one step each, else by halving.
 pub(crate) fn bucket_of(steps: &[u32; LADDER], d: u64) -> usize
     requires { ⌜ Steps (now steps) ⌝ }
@@ -173,7 +191,7 @@ fn row_by_halves(
     }
 }
 
-// The same by cells of one step each.
+// The same by cells, of one step each or of a few.
 fn row_by_cells(
     ys: &[u32],
     p: u64,
@@ -181,9 +199,10 @@ fn row_by_cells(
     other: u64,
     place: u64,
     steps: &[u32; LADDER],
+    alone: bool,
     buckets: &mut [u32; BUCKETS],
 )
-    requires { ⌜ RowFits p q other (now ys) (now steps) (now buckets) × Celled (now steps) 1 ⌝ }
+    requires { ⌜ RowFits p q other (now ys) (now steps) (now buckets) × Celled (now steps) (cond alone 1 7) ⌝ }
     ensures { λ _. ⌜ Added (now (steps .entry)) (now (buckets .entry)) (now (buckets .exit)) (length (now (ys .entry))) (λ t. countBelow (length (now (ys .entry))) (λ j. leb (meet p q other place (getD (now (ys .entry)) j 0)) t)) ⌝ }
 {
     let shift = steps[SHIFT_AT];
@@ -191,38 +210,9 @@ fn row_by_cells(
     let cap = cap_of(greatest, width_of(shift));
     let mut j = 0;
     while j < ys.len() {
-        let b = bucket_by_cell(
+        let b = bucket_in_cells(
             steps,
-            shift,
-            cap,
-            greatest,
-            meet(p, q, other, place, ys[j] as u64),
-        );
-        buckets[b] += 1;
-        j += 1;
-    }
-}
-
-// The same by cells of a few steps each.
-fn row_by_few(
-    ys: &[u32],
-    p: u64,
-    q: u64,
-    other: u64,
-    place: u64,
-    steps: &[u32; LADDER],
-    buckets: &mut [u32; BUCKETS],
-)
-    requires { ⌜ RowFits p q other (now ys) (now steps) (now buckets) × Celled (now steps) 7 ⌝ }
-    ensures { λ _. ⌜ Added (now (steps .entry)) (now (buckets .entry)) (now (buckets .exit)) (length (now (ys .entry))) (λ t. countBelow (length (now (ys .entry))) (λ j. leb (meet p q other place (getD (now (ys .entry)) j 0)) t)) ⌝ }
-{
-    let shift = steps[SHIFT_AT];
-    let greatest = wide(steps[LAST_STEP]);
-    let cap = cap_of(greatest, width_of(shift));
-    let mut j = 0;
-    while j < ys.len() {
-        let b = bucket_by_few(
-            steps,
+            alone,
             shift,
             cap,
             greatest,
@@ -248,9 +238,9 @@ pub(crate) fn row(
 {
     let most = steps[MOST_AT];
     if most == ALONE as u32 {
-        row_by_cells(ys, p, q, other, place, steps, buckets);
+        row_by_cells(ys, p, q, other, place, steps, true, buckets);
     } else if most == FEW as u32 {
-        row_by_few(ys, p, q, other, place, steps, buckets);
+        row_by_cells(ys, p, q, other, place, steps, false, buckets);
     } else {
         row_by_halves(ys, p, q, other, place, steps, buckets);
     }

@@ -17,8 +17,8 @@ row-by-cells-requires c κs = (c .before .before .before .before .pre, celled-fo
 cast-if2 : tie.Need-cast-if2
 cast-if2 c = search needs
 
-row-by-few-requires : tie.Need-row-by-few-requires
-row-by-few-requires c κs = (c .before .before .before .before .before .pre, celled-for 7 (c .before .before .before .before .before .pre .rising) (c .before .if2 .taken) (omega arith))
+row-by-cells-requires-2 : tie.Need-row-by-cells-requires-2
+row-by-cells-requires-2 c κs = (c .before .before .before .before .before .pre, celled-for 7 (c .before .before .before .before .before .pre .rising) (c .before .if2 .taken) (omega arith))
 
 row-by-halves-requires : tie.Need-row-by-halves-requires
 row-by-halves-requires c κs = search needs
@@ -40,7 +40,7 @@ row-spec =
     cast-if1
     row-by-cells-requires
     cast-if2
-    row-by-few-requires
+    row-by-cells-requires-2
     row-by-halves-requires
     returns
     returns-2

@@ -13,10 +13,10 @@ use Rattle.range_query.proofs.tally.row_by_cells.Statement.{statement}
 use Rattle.range_query.proofs.tally.row_by_cells.Tie as tie
 
 abbrev Inv-loop : tie.InvT-loop
-Inv-loop ys p q other place steps buckets₀ shift greatest cap j₀ buckets j = (j ≤ length ys) × Added steps buckets₀ buckets j (λ t. countBelow j (λ i. leb (meet p q other place (getD ys i 0)) t))
+Inv-loop ys p q other place steps alone buckets₀ shift greatest cap j₀ buckets j = (j ≤ length ys) × Added steps buckets₀ buckets j (λ t. countBelow j (λ i. leb (meet p q other place (getD ys i 0)) t))
 
 abbrev μ-loop : tie.MeasureT-loop
-μ-loop ys p q other place steps buckets₀ shift greatest cap j₀ buckets j = length ys - j
+μ-loop ys p q other place steps alone buckets₀ shift greatest cap j₀ buckets j = length ys - j
 
 element-copy-out-shift : tie.Need-element-copy-out-shift Inv-loop μ-loop
 element-copy-out-shift c = search needs
@@ -53,8 +53,8 @@ cast-meet c = omega (arith, c .shared-slice-known2 .given (c .before .before .lo
 meet-requires : tie.Need-meet-requires Inv-loop μ-loop
 meet-requires c κs = let f = c .before .before .before .before .before .before .before .before .before .pre .0 in (f .p-to, f .q-to, f .on-other _ (c .before .loop-test .taken), f .other-to)
 
-bucket-by-cell-requires : tie.Need-bucket-by-cell-requires Inv-loop μ-loop
-bucket-by-cell-requires c κs = (c .before .before .before .before .before .before .before .before .before .before .pre .0 .rising, record { shift-to = c .before .before .before .before .before .before .before .before .before .before .pre .1 .shift-to; cells = c .before .before .before .before .before .before .before .before .before .before .pre .1 .cells; cap-is = cap-is (c .before .before .before .before) }, c .before .before .before .before .before .before .wide .ensures)
+bucket-in-cells-requires : tie.Need-bucket-in-cells-requires Inv-loop μ-loop
+bucket-in-cells-requires c κs = (c .before .before .before .before .before .before .before .before .before .before .pre .0 .rising, record { shift-to = c .before .before .before .before .before .before .before .before .before .before .pre .1 .shift-to; cells = c .before .before .before .before .before .before .before .before .before .before .pre .1 .cells; cap-is = cap-is (c .before .before .before .before) }, c .before .before .before .before .before .before .wide .ensures)
 
 mul-buckets : tie.Need-mul-buckets Inv-loop μ-loop
 mul-buckets c = search needs
@@ -63,7 +63,7 @@ element-copy-out-buckets : tie.Need-element-copy-out-buckets Inv-loop μ-loop
 element-copy-out-buckets c = search needs
 
 add-buckets : tie.Need-add-buckets Inv-loop μ-loop
-add-buckets c = record { fits = takes-more _ _ _ _ (c .before .before .before .before .before .before .before .before .before .before .before .before .pre .0 .room) (c .before .before .before .before .loop-test .taken) (c .before .before .before .before .before .loop .inv .1) (c .before .bucket-by-cell .ensures .fits) }
+add-buckets c = record { fits = takes-more _ _ _ _ (c .before .before .before .before .before .before .before .before .before .before .before .before .pre .0 .room) (c .before .before .before .before .loop-test .taken) (c .before .before .before .before .before .loop .inv .1) (c .before .bucket-in-cells .ensures .fits) }
 
 element-write-buckets : tie.Need-element-write-buckets Inv-loop μ-loop
 element-write-buckets c = search needs
@@ -75,7 +75,7 @@ loop-less : tie.Need-loop-less Inv-loop μ-loop
 loop-less c = search needs
 
 loop-again : tie.Need-loop-again Inv-loop μ-loop
-loop-again c = (omega arith, row-more _ _ _ _ (c .before .before .meet .ensures) (c .before .before .before .before .before .before .before .before .before .before .before .before .pre .0 .room .long) (c .before .before .before .before .before .loop .inv .1) (c .before .bucket-by-cell .ensures))
+loop-again c = (omega arith, row-more _ _ _ _ (c .before .before .meet .ensures) (c .before .before .before .before .before .before .before .before .before .before .before .before .pre .0 .room .long) (c .before .before .before .before .before .loop .inv .1) (c .before .bucket-in-cells .ensures))
 
 returns : tie.Need-returns Inv-loop μ-loop
 returns c = let e : c .before .loop .j ≡ length (c .before .before .before .before .before .before .before .before .args .ys .now) = omega arith in rw e at (c .before .loop .inv .1)
@@ -96,7 +96,7 @@ row-by-cells-spec =
     shared-slice-read-meet
     cast-meet
     meet-requires
-    bucket-by-cell-requires
+    bucket-in-cells-requires
     mul-buckets
     element-copy-out-buckets
     add-buckets
