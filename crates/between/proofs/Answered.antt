@@ -1,7 +1,7 @@
 -- Entries and refusals as answers.
 use mathlib.Core.Path.{_≡_, _∙_, sym}
 use Prim.Native.Nat.{ℕ, suc}
-use Rattle.model.proofs.Laws.Within.{code-unique}
+use Rattle.model.proofs.Laws.Codes.{code-unique}
 use Rattle.model.specs.Distance.{Distance, metres, none, code}
 use Rattle.model.specs.declared.check.Check.{Check}
 use Rattle.model.specs.declared.check.Check.the-variants.{Accepted, Refused}

@@ -1,39 +1,18 @@
--- Entries of routes: the lesser of two, one with its gaps, and the least of all.
+-- Entries of routes: one with its gaps, and the least of all.
 use mathlib.Core.Path.{_≡_, _∙_, refl, sym, ap, subst}
 use Prim.Native.Nat.{ℕ, pred, _+_, _-_, _≤_, _<_}
 use native.Mathlib.Omega.{arith}
-use borrow.Author.Tests.{eq-eqb, ne-eqb}
+use lib.Dec.{eqb}
 use lib.ListN.{length}
 use Rattle.model.proofs.Laws.Checks.{IsNetwork, LocationsAccepted, network-accepted, network-accepts}
-use Rattle.model.proofs.Laws.Distance.{least-none, least-comm}
+use Rattle.model.proofs.Laws.Distance.{least-none}
 use Rattle.model.proofs.Laws.Location.{edge-distance}
-use Rattle.model.specs.Distance.{Distance, metres, none, least, plus, leastOf, difference, code}
+use Rattle.model.specs.Distance.{Distance, metres, none, least, plus, leastOf, code}
 use Rattle.model.specs.Events.{event, IsEvent}
 use Rattle.model.specs.Limits.{maxLength, maxNodes}
-use Rattle.model.specs.Location.{End, end, edgeEnds, route, routes, edgeDistance, locationOf, locationDistance}
+use Rattle.model.specs.Location.{End, end, edgeEnds, route, routes, edgeDistance, locationOf, locationDistance, alongEdge}
 use Rattle.model.specs.Network.{Network, IsNode, first, second, size}
-use Rattle.between.specs.Routes.{fromEnd, alongEdge, OnEdge}
-
--- the lesser of two entries
-module _ {one other : ℕ} where
-  pub first-none : (d e : Distance) → one ≡ 0 → one ≡ code d → other ≡ code e → other ≡ code (least d e)
-  unfolding code least
-  first-none (metres m) e z p q = absurd (omega arith)
-  first-none none e z p q = q
-
-  pub second-none : (d e : Distance) → other ≡ 0 → one ≡ code d → other ≡ code e → one ≡ code (least d e)
-  unfolding code
-  second-none d (metres n) z p q = absurd (omega arith)
-  second-none d none z p q = p ∙ ap code (sym (least-none d))
-
-  pub first-lesser : (d e : Distance) → (one ≡ 0 → ⊥) → one ≤ other → one ≡ code d → other ≡ code e → one ≡ code (least d e)
-  unfolding code least
-  first-lesser (metres m) (metres n) s h p q = omega arith
-  first-lesser (metres m) none s h p q = p
-  first-lesser none e s h p q = absurd (s p)
-
-pub second-lesser : {one other : ℕ} (d e : Distance) → (other ≡ 0 → ⊥) → other ≤ one → one ≡ code d → other ≡ code e → other ≡ code (least d e)
-second-lesser d e s h p q = first-lesser e d s h q p ∙ ap code (least-comm e d)
+use Rattle.between.specs.Routes.{fromEnd, OnEdge}
 
 -- an entry with its gaps
 pub no-route : {entry : ℕ} (near far : ℕ) (d : Distance) → entry ≡ 0 → entry ≡ code d → 0 ≡ code (plus (plus (metres near) d) (metres far))
@@ -46,24 +25,14 @@ unfolding code plus
 a-route near far (metres n) s e = omega arith
 a-route near far none s e = absurd (s e)
 
--- the stretch on one edge
-module _ (i x j y : ℕ) where
-  pub other-edge : (i ≡ j → ⊥) → 0 ≡ code (alongEdge i x j y)
-  unfolding alongEdge code
-  other-edge n = rw (ne-eqb i j n)
-
-  pub same-edge : (n : ℕ) → i ≡ j → (x - y) + (y - x) ≡ n → n + 1 ≡ code (alongEdge i x j y)
-  unfolding alongEdge code difference
-  same-edge n e d = rw (eq-eqb i j e) (omega arith)
-
 -- from an end there are two routes
 pub from-end-code : {r : ℕ} (net : Network) (a : End) (j y : ℕ) → r ≡ code (least (route net a (end (first net j) y)) (route net a (end (second net j) (size net j - y)))) → r ≡ code (fromEnd net a j y)
 unfolding fromEnd edgeEnds leastOf
 from-end-code net a j y e = rw least-none e
 
 -- the least of all
-pub edge-code : {r : ℕ} (net : Network) (i x j y : ℕ) → r ≡ code (least (least (fromEnd net (end (first net i) x) j y) (fromEnd net (end (second net i) (size net i - x)) j y)) (alongEdge i x j y)) → r ≡ code (edgeDistance net i x j y)
-unfolding edgeDistance fromEnd alongEdge routes edgeEnds
+pub edge-code : {r : ℕ} (net : Network) (i x j y : ℕ) → r ≡ code (least (least (fromEnd net (end (first net i) x) j y) (fromEnd net (end (second net i) (size net i - x)) j y)) (alongEdge (eqb i j) x y)) → r ≡ code (edgeDistance net i x j y)
+unfolding edgeDistance fromEnd routes edgeEnds
 edge-code net i x j y e = rw (least-none (leastOf _)) e
 
 -- what the code's reads at an edge rest on

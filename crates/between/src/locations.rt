@@ -1,13 +1,14 @@
 // The distance of two locations, each an edge and an offset.
 ghost use mathlib.Core.Path.{_≡_};
 ghost use Prim.Native.Nat.{suc, _*_, _≤_};
+ghost use lib.Dec.{eqb};
 ghost use lib.ListN.{length};
 ghost use Rattle.model.specs.Distance.{Distance, metres, plus, least, code};
 ghost use Rattle.model.specs.Limits.{maxLength, maxNodes};
-ghost use Rattle.model.specs.Location.{end, edgeDistance};
+ghost use Rattle.model.specs.Location.{end, edgeDistance, alongEdge};
 ghost use Rattle.model.specs.Network.{network};
 ghost use Rattle.between.specs.Answers.{locationAnswer};
-ghost use Rattle.between.specs.Routes.{fromEnd, alongEdge, OnEdge};
+ghost use Rattle.between.specs.Routes.{fromEnd, OnEdge};
 ghost use Rattle.between.specs.Rows.{Asked};
 use crate::answers::Length;
 use crate::entries::WIDEST;
@@ -15,19 +16,8 @@ use crate::entries::entry_of;
 use crate::entries::length_of;
 use model::Check;
 use model::Network;
-
-// The lesser of two entries; 0 is above every other.
-fn lesser(one: u32, other: u32) -> u32
-    ensures { λ r. ⌜ ((d e : Distance) → one ≡ code d → other ≡ code e → r ≡ code (least d e)) ⌝ }
-{
-    if one == 0 {
-        return other;
-    }
-    if other == 0 {
-        return one;
-    }
-    if one <= other { one } else { other }
-}
+use model::apart;
+use model::lesser_entry;
 
 // An entry with the gaps at both ends.
 fn with_gaps(near: u32, entry: u32, far: u32) -> u32
@@ -43,12 +33,13 @@ fn with_gaps(near: u32, entry: u32, far: u32) -> u32
 // The stretch on one edge.
 fn along_edge(i: usize, x: u32, j: usize, y: u32) -> u32
     requires { ⌜ (x ≤ maxLength) × (y ≤ maxLength) ⌝ }
-    ensures { λ r. ⌜ r ≡ code (alongEdge i x j y) ⌝ }
+    ensures { λ r. ⌜ r ≡ code (alongEdge (eqb i j) x y) ⌝ }
 {
     if i != j {
         return 0;
     }
-    if x < y { y - x + 1 } else { x - y + 1 }
+    let stretch = apart(x as u64, y as u64);
+    stretch as u32 + 1
 }
 
 // The lesser of the two routes from an end of the first edge: a row from that end, and both ends of the second edge.
@@ -70,7 +61,7 @@ fn from_end(
     distance::distances_from(nodes, firsts, seconds, lengths, at, WIDEST, row);
     let by_first = with_gaps(gap, entry_of(row, firsts[j]), y);
     let by_second = with_gaps(gap, entry_of(row, seconds[j]), lengths[j] - y);
-    lesser(by_first, by_second)
+    lesser_entry(by_first, by_second)
 }
 
 // The least of the four routes and, on one edge, of the stretch between the two.
@@ -101,9 +92,9 @@ fn entry_with(
         y,
         row,
     );
-    let by_ends = lesser(from_first, from_second);
+    let by_ends = lesser_entry(from_first, from_second);
     let stretch = along_edge(i, x, j, y);
-    lesser(by_ends, stretch)
+    lesser_entry(by_ends, stretch)
 }
 
 fn entry_between(

@@ -6,7 +6,7 @@ use native.Mathlib.Numerals.{add-one}
 use native.Mathlib.Omega.{arith}
 use lib.ListN.{length, getD, take, drop, set, length-drop}
 use lib.Seq.{drop-cons, take-suc, append-snoc, set-at, length-take-le, getD-take, getD-drop}
-use Rattle.model.proofs.Laws.Within.{code-unique}
+use Rattle.model.proofs.Laws.Codes.{code-unique}
 use Rattle.model.specs.Counting.{numbersFrom}
 use Rattle.model.specs.Distance.{code}
 use Rattle.model.specs.Limits.{maxLength, maxNodes}

@@ -1,11 +1,11 @@
 -- The least of several keys, and what the least key of the front says.
 use mathlib.Core.List.{List}
 use mathlib.Core.Path.{_≡_, _∙_, refl, sym, ap, subst}
-use Prim.Native.Nat.{ℕ, _+_, _*_, _/_, _%_, _≤_, _<_}
+use Prim.Native.Nat.{ℕ, _+_, _*_, _/_, _%_, _≤_, _<_, min}
 use native.Mathlib.Decide.{decLt}
-use native.Mathlib.Omega.{arith}
+use native.Mathlib.Omega.{arith, min-cases}
 use lib.ListN.{getD}
-use Rattle.distance.specs.Keys.{Lesser, first, second, Least, Keyed}
+use Rattle.distance.specs.Keys.{Least, Keyed}
 
 -- one key alone
 pub one-key : (keys : List ℕ) (len k next : ℕ) → k < len → next ≡ k + 1 → Least keys len k next (getD keys k 0)
@@ -19,16 +19,17 @@ pub no-key : (keys : List ℕ) (len : ℕ) → 1 ≤ len → Least keys len 0 0 
 no-key keys len h = record { place = 0; inside = h; is = refl; least = λ j l m. omega arith }
 
 -- the lesser of the least of two parts that meet
-pub join : {keys : List ℕ} {len from mid to x y r : ℕ} → Least keys len from mid x → Least keys len mid to y → Lesser x y r → Least keys len from to r
-join {keys} {len} {from} {mid} {to} {x} {y} {r} a b = go
+pub join : {keys : List ℕ} {len from mid to x y r : ℕ} → Least keys len from mid x → Least keys len mid to y → r ≡ min x y → Least keys len from to r
+join {keys} {len} {from} {mid} {to} {x} {y} {r} a b e = min-cases x y (Least keys len from to r) first second
   where
     least : r ≤ x → r ≤ y → (j : ℕ) → from ≤ j → j < to → Dec (j < mid) → r ≤ getD keys j 0
     least p q j low high (yes h) = omega (arith, a .least j low h)
     least p q j low high (no h) = omega (arith, b .least j (omega arith) high)
 
-    go : Lesser x y r → Least keys len from to r
-    go (first e l) = record { place = a .place; inside = a .inside; is = a .is ∙ sym e; least = λ j low high. least (omega arith) (omega arith) j low high (decLt j mid) }
-    go (second e l) = record { place = b .place; inside = b .inside; is = b .is ∙ sym e; least = λ j low high. least (omega arith) (omega arith) j low high (decLt j mid) }
+    first : x ≤ y → min x y ≡ x → Least keys len from to r
+    first l m = record { place = a .place; inside = a .inside; is = a .is ∙ sym (e ∙ m); least = λ j low high. least (omega arith) (omega arith) j low high (decLt j mid) }
+    second : y ≤ x → min x y ≡ y → Least keys len from to r
+    second l m = record { place = b .place; inside = b .inside; is = b .is ∙ sym (e ∙ m); least = λ j low high. least (omega arith) (omega arith) j low high (decLt j mid) }
 
 -- the same end, written in another way
 pub ends-at : {keys : List ℕ} {len from to to′ key : ℕ} → Least keys len from to key → to ≡ to′ → Least keys len from to′ key

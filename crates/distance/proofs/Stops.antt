@@ -11,8 +11,8 @@ use Rattle.model.proofs.Laws.NodeDistance.{node-distance, bounded-distance}
 use Rattle.model.specs.Distance.{code}
 use Rattle.model.specs.Limits.{maxLength, maxNodes}
 use Rattle.model.specs.Network.{Network, EndsAreNodes}
-use Rattle.model.specs.NodeDistance.{nodeDistance, boundedDistance}
-use Rattle.model.specs.Walk.{Walk, IsLeast, attained, no-walk}
+use Rattle.model.specs.NodeDistance.{nodeDistance, boundedDistance, IsNodeDistance, IsBoundedDistance}
+use Rattle.model.specs.Walk.{attained, no-walk}
 use Rattle.distance.specs.Search.{Settled, State, Searched, Clipped}
 use Rattle.distance.proofs.Nearest.{Nearer, nearer, no-shorter, waits-or-settled}
 use Rattle.distance.proofs.Offer.{few}
@@ -22,7 +22,7 @@ stopped : (net : Network) → EndsAreNodes net → (source bound : ℕ) (dist fr
 unfolding code
 stopped net ends source bound dist front len picked v s far = go (decLe (getD dist v 0) (suc bound)) (ℕ-discrete (getD dist v 0) 0)
   where
-    law : IsLeast (λ n. Walk net source v n × (n ≤ bound)) (boundedDistance net bound source v)
+    law : IsBoundedDistance net bound source v (boundedDistance net bound source v)
     law = bounded-distance net ends bound source v
 
     -- nothing that waits is as near as a walk within the bound
@@ -68,7 +68,7 @@ module _ {net : Network} {source bound : ℕ} {dist front : List ℕ} {len picke
   unfolding code
   nothing-cut wide v = go (ℕ-discrete (getD dist v 0) 0)
     where
-      law : IsLeast (Walk net source v) (nodeDistance net source v)
+      law : IsNodeDistance net source v (nodeDistance net source v)
       law = node-distance net ends source v
 
       settled-by : (n : ℕ) → Settled net source bound dist v 0 ⊎ Nearer dist front len n → Settled net source bound dist v 0

@@ -8,11 +8,6 @@ use lib.ListN.{length, getD, set}
 abbrev pub keyOf : ℕ → ℕ → ℕ
 keyOf entry place = entry * 4294967296 + place
 
--- r is the lesser of two numbers
-pub data Lesser (one other r : ℕ) : Type 0 where
-  first : r ≡ one → one ≤ other → Lesser one other r
-  second : r ≡ other → other ≤ one → Lesser one other r
-
 -- key is one of the first len, and no greater than any of those from a place on to another
 pub record Least (keys : List ℕ) (len from to key : ℕ) : Type 0 where
   pub place : ℕ

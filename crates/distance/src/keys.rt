@@ -2,7 +2,8 @@
 ghost use mathlib.Core.Path.{_≡_};
 ghost use Prim.Native.Nat.{_+_, _*_, _/_, _%_, _≤_, _<_};
 ghost use lib.ListN.{length};
-ghost use Rattle.distance.specs.Keys.{keyOf, Lesser, Least};
+ghost use Rattle.distance.specs.Keys.{keyOf, Least};
+use model::lesser;
 
 pub(crate) fn key_of(entry: u32, place: usize) -> u64
     requires { ⌜ place < 4294967296 ⌝ }
@@ -23,14 +24,7 @@ pub(crate) fn place_of(key: u64) -> usize
     (key % 4_294_967_296) as usize
 }
 
-// A value and not a place, so that it compiles to a conditional move.
-pub(crate) fn lesser(one: u64, other: u64) -> u64
-    ensures { λ r. ⌜ Lesser one other r ⌝ }
-{
-    if other < one { other } else { one }
-}
-
-// The least of the four keys from a place on.
+// The least of the four keys from a place on: a value and not a place, so that it compiles to conditional moves.
 fn least_of_four(keys: &[u64], len: usize, at: usize) -> u64
     requires { ⌜ (at + 4 ≤ len) × (len ≤ length (now keys)) ⌝ }
     ensures { λ r. ⌜ Least (now (keys .entry)) len at (at + 4) r ⌝ }

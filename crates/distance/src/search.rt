@@ -13,9 +13,9 @@ use crate::front::remove;
 use crate::keys::entry_of;
 use crate::keys::key_of;
 use crate::keys::least_of_fours;
-use crate::keys::lesser;
 use crate::keys::place_of;
 use model::Network;
+use model::lesser;
 
 // Why the search stopped: every node reached is settled, or the nearest one waiting is beyond the bound.
 enum Stop {

@@ -52,3 +52,8 @@ difference x y = (x - y) + (y - x)
 unfoldable pub code : Distance → ℕ
 code none = 0
 code (metres n) = suc n
+
+-- the distance that an entry of an answer list stands for: the inverse of `code` (proofs/Laws/Codes)
+unfoldable pub decode : ℕ → Distance
+decode zero = none
+decode (suc n) = metres n

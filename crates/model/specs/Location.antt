@@ -6,7 +6,7 @@ use Prim.Native.Nat.{ℕ, zero, suc, pred, _+_, _-_, _≤_, _<_}
 use lib.Dec.{eqb}
 use Rattle.model.specs.Network.{Network, IsNode, edges, first, second, size}
 use Rattle.model.specs.Distance.{Distance, metres, none, least, plus, leastOf, within, difference}
-use Rattle.model.specs.Walk.{Walk}
+use Rattle.model.specs.Walk.{Walk, IsLeast}
 use Rattle.model.specs.NodeDistance.{nodeDistance}
 
 -- a node, or the edge at an index with an offset strictly inside it
@@ -56,21 +56,30 @@ unfoldable pub routes : Network → List End → List End → Distance
 routes net [] bs = none
 routes net (a ∷ more) bs = least (leastOf (map (route net a) bs)) (routes net more bs)
 
+-- along one edge from one offset to another; none where they do not lie on one
+unfoldable pub alongEdge : Bool → ℕ → ℕ → Distance
+alongEdge same x y = cond same (metres (difference x y)) none
+
 -- the stretch between two locations strictly inside one edge
 unfoldable pub stretch : Location → Location → Distance
 stretch (node v) q = none
 stretch (inside i x) (node w) = none
-stretch (inside i x) (inside j y) = cond (eqb i j) (metres (difference x y)) none
+stretch (inside i x) (inside j y) = alongEdge (eqb i j) x y
 
 -- 01: the distance of two places
 unfoldable pub locationDistance : Network → Location → Location → Distance
 locationDistance net p q = least (routes net (ends net p) (ends net q)) (stretch p q)
 
+-- d is the least length over all walks between two locations: some walk is that long and none is shorter, or there is no walk and d is
+-- none. Law (proofs/Laws/Location, `location-distance`): where every edge ends at nodes, `locationDistance` is such.
+abbrev pub IsLocationDistance : Network → Location → Location → Distance → Type 0
+IsLocationDistance net p q d = IsLeast (LocationWalk net p q) d
+
 -- the same by both gaps of each location to the ends of its edge, on a node too: what the counting methods use.
--- Law (proofs/Laws/Location): it is the location distance.
+-- Law (proofs/Laws/Location, `edge-distance`): it is the distance of the locations at the two offsets.
 unfoldable pub edgeDistance : Network → ℕ → ℕ → ℕ → ℕ → Distance
 edgeDistance net i x j y =
-    least (routes net (edgeEnds net i x) (edgeEnds net j y)) (cond (eqb i j) (metres (difference x y)) none)
+    least (routes net (edgeEnds net i x) (edgeEnds net j y)) (alongEdge (eqb i j) x y)
 
 -- the two ends of an edge, as a parameter: the node there, and an offset's gap to it (on a node too)
 pub data Side : Type 0 where

@@ -1,5 +1,6 @@
 // The types that carry document 01's limits, and the refusal. What a reader must believe stands in specs/.
 mod check;
+mod code;
 mod event_set;
 mod list;
 mod network;
@@ -8,6 +9,8 @@ mod thresholds;
 
 pub use check::Check;
 pub use check::is_between;
+pub use code::lesser_code;
+pub use code::lesser_entry;
 pub use event_set::EventSet;
 pub use event_set::MadeEventSet;
 pub use list::equals_end;

@@ -9,13 +9,13 @@ ghost use mathlib.Core.Bool.{false};
 ghost use mathlib.Core.Path.{_≡_};
 ghost use Prim.Native.Nat.{ℕ, pred, _+_, _*_, _≤_, _<_};
 ghost use lib.ListN.{length, getD};
+ghost use Rattle.model.specs.Distance.{decode};
 ghost use Rattle.model.specs.Limits.{maxEvents, maxPairs};
 ghost use Rattle.model.specs.Location.{reaches};
 ghost use Rattle.model.specs.Network.{network};
 ghost use Rattle.prepare.specs.EndTable.{EndTable, TableEntry};
 ghost use Rattle.neighbor_sharing.specs.Joined.{reachedPairs, shared, Beyond};
 ghost use Rattle.neighbor_sharing.specs.Runs.{tableEdges};
-ghost use Rattle.sweep.specs.Ends.{decoded};
 ghost use Rattle.sweep.specs.Six.{EdgesLaid};
 
 // The table entry of two nodes.
@@ -56,7 +56,7 @@ pub(crate) fn table_edges(
 
 // The metres of a code; more than any threshold where it is that of no route.
 fn metres_of(code: u32) -> u64
-    ensures { λ r. ⌜ ((t : ℕ) → t < r → reaches t 0 (decoded code) 0 ≡ false) ⌝ }
+    ensures { λ r. ⌜ ((t : ℕ) → t < r → reaches t 0 (decode code) 0 ≡ false) ⌝ }
 {
     if code == 0 {
         return 4294967296;

@@ -8,15 +8,16 @@ use native.Mathlib.Decide.{decLe}
 use native.Mathlib.Omega.{arith, min-cases}
 use borrow.Author.Tests.{le-leb, lt-leb, lt-ltb, le-ltb, leb-true, ltb-true}
 use lib.Dec.{leb, ltb}
+use Rattle.model.proofs.Laws.Codes.{decode-code}
 use Rattle.model.specs.Counting.{one-if}
-use Rattle.model.specs.Distance.{Distance, metres, none, least, plus, difference, exactly, code}
+use Rattle.model.specs.Distance.{Distance, metres, none, least, plus, difference, exactly, code, decode}
 use Rattle.model.proofs.Laws.Counting.{count-below-cong, count-numbers, one-if-one}
 use Rattle.model.proofs.Laws.Perimeter.{exactly-true}
 use Rattle.model.proofs.Laws.Refusal.{both-true}
-use Rattle.perimeter.specs.Reach.{distanceOf, byEnds, stretchOf, leftOf, insideDistance, insidesAt, unseen}
+use Rattle.model.specs.Location.{alongEdge}
+use Rattle.perimeter.specs.Reach.{byEnds, leftOf, insideDistance, insidesAt, unseen}
 use Rattle.perimeter.specs.Sight.{lies, met, metCount, MetCounted}
 use Rattle.perimeter.specs.declared.edges.Sight.{Sight}
-use Rattle.perimeter.proofs.Distances.{of-code}
 use Rattle.perimeter.proofs.Candidates.{distinct, count-candidates, unseen-failing, unseen-fails}
 
 -- a number of metres that is the lesser of two distances is one of them
@@ -34,8 +35,8 @@ front-is gap none radius p = let z : _≡_ {A = ℕ} 0 1 = cc in absurd (omega a
 front-is gap (metres n) radius p = let e : gap + n ≡ radius = cc in omega arith
 
 -- on the centre's own edge: before it or behind it
-stretch-is : (own : Bool) (x y radius : ℕ) → stretchOf own x y ≡ metres radius → (y ≡ x - radius) ⊎ (y ≡ x + radius)
-unfolding stretchOf difference
+stretch-is : (own : Bool) (x y radius : ℕ) → alongEdge own x y ≡ metres radius → (y ≡ x - radius) ⊎ (y ≡ x + radius)
+unfolding alongEdge difference
 stretch-is false x y radius p = let z : _≡_ {A = ℕ} 0 1 = cc in absurd (omega arith)
 stretch-is true x y radius p = go (decLe y x)
   where
@@ -80,7 +81,7 @@ among end1 end2 size own offset radius y h e =
 module _ (s : Sight) where
   -- the candidates of the edge
   sighted : List ℕ
-  sighted = candidates (distanceOf (s .end1)) (distanceOf (s .end2)) (s .length) (s .offset) (s .radius)
+  sighted = candidates (decode (s .end1)) (decode (s .end2)) (s .length) (s .offset) (s .radius)
 
   -- what is met is strictly inside
   met-inside : (y : ℕ) → met s y ≡ true → (1 ≤ y) × (y < s .length)
@@ -102,8 +103,8 @@ module _ (s : Sight) where
   unfolding met
   inside-met y h k = simp (le-leb 1 y h, lt-ltb y (s .length) k)
 
-  pub met-if-at : (y c : ℕ) {b : Bool} → 1 ≤ y → y < s .length → c ≡ code (lies s y) → b ≡ exactly (distanceOf c) (s .radius) → b ≡ met s y
-  met-if-at y c h k p q = q ∙ ap (λ d. exactly d (s .radius)) (ap distanceOf p ∙ of-code _) ∙ sym (inside-met y h k)
+  pub met-if-at : (y c : ℕ) {b : Bool} → 1 ≤ y → y < s .length → c ≡ code (lies s y) → b ≡ exactly (decode c) (s .radius) → b ≡ met s y
+  met-if-at y c h k p q = q ∙ ap (λ d. exactly d (s .radius)) (ap decode p ∙ decode-code _) ∙ sym (inside-met y h k)
 
   -- an offset that is not inside is not met
   pub too-low : (y : ℕ) → y < 1 → false ≡ met s y
@@ -148,7 +149,7 @@ module _ (s : Sight) where
   two-seen b c y = unseen-failing 0 _ (unseen-fails b _ 0 (unseen-fails c _ 0 not-at-zero)) y
 
   -- the four tests, each without the candidates before it, count what is met
-  pub four-tests : {y1 y2 y3 y4 n1 n2 n3 n4 : ℕ} → y1 ≡ leftOf (s .radius) (distanceOf (s .end1)) → y2 ≡ s .length - leftOf (s .radius) (distanceOf (s .end2)) → y3 ≡ s .offset - s .radius → y4 ≡ s .offset + s .radius → n1 ≡ one-if (unseen 0 (unseen 0 (unseen 0 (met s))) y1) → n2 ≡ one-if (unseen 0 (unseen 0 (unseen y1 (met s))) y2) → n3 ≡ one-if (unseen 0 (unseen y2 (unseen y1 (met s))) y3) → n4 ≡ one-if (unseen y3 (unseen y2 (unseen y1 (met s))) y4) → MetCounted s (n1 + n2 + n3 + n4)
+  pub four-tests : {y1 y2 y3 y4 n1 n2 n3 n4 : ℕ} → y1 ≡ leftOf (s .radius) (decode (s .end1)) → y2 ≡ s .length - leftOf (s .radius) (decode (s .end2)) → y3 ≡ s .offset - s .radius → y4 ≡ s .offset + s .radius → n1 ≡ one-if (unseen 0 (unseen 0 (unseen 0 (met s))) y1) → n2 ≡ one-if (unseen 0 (unseen 0 (unseen y1 (met s))) y2) → n3 ≡ one-if (unseen 0 (unseen y2 (unseen y1 (met s))) y3) → n4 ≡ one-if (unseen y3 (unseen y2 (unseen y1 (met s))) y4) → MetCounted s (n1 + n2 + n3 + n4)
   unfolding sighted candidates distinct
   four-tests {y1} {y2} {y3} {y4} {n1} {n2} {n3} {n4} p1 p2 p3 p4 q1 q2 q3 q4 =
       let total : metCount s ≡ one-if (met s y1) + (one-if (unseen y1 (met s) y2) + (one-if (unseen y2 (unseen y1 (met s)) y3) + (one-if (unseen y3 (unseen y2 (unseen y1 (met s))) y4) + 0))) =

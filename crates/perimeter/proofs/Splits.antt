@@ -6,13 +6,13 @@ use Prim.Native.Nat.{ℕ, zero, suc, pred, _+_, _-_}
 use lib.Dec.{eqb}
 use Rattle.model.specs.Counting.{sumBelow, countBelow, countIf, numbersFrom}
 use Rattle.model.specs.Distance.{Distance, metres, least, plus, leastOf}
-use Rattle.model.specs.Location.{Location, node, inside, End, edgeEnds, ends, route, routes, stretch, locationDistance}
+use Rattle.model.specs.Location.{Location, node, inside, End, edgeEnds, ends, route, routes, stretch, locationDistance, alongEdge}
 use Rattle.model.specs.Network.{Network, edges, first, second, size}
 use Rattle.model.specs.NodeDistance.{nodeDistance}
 use Rattle.model.specs.Perimeter.{insides, locations}
 use Rattle.model.proofs.Laws.Counting.{count-append, count-map, count-numbers}
 use Rattle.model.proofs.Laws.Distance.{least-none, least-assoc, least-comm, plus-zero, plus-comm, plus-least}
-use Rattle.perimeter.specs.Reach.{byEnds, stretchOf, insideDistance}
+use Rattle.perimeter.specs.Reach.{byEnds, insideDistance}
 
 -- the inside locations are counted edge by edge
 insides-count : (net : Network) (test : Location → Bool) (n : ℕ) → countIf test (insides net n) ≡ sumBelow n (λ j. countIf (λ y. test (inside j y)) (numbersFrom 1 (pred (size net j))))
@@ -50,6 +50,6 @@ route-turned net a b = plus-comm _ _
 
 -- from an offset of an edge to an offset inside an edge
 pub inside-away : (net : Network) (i x j y : ℕ) → locationDistance net (inside i x) (inside j y) ≡ insideDistance (toNode net i x (first net j)) (toNode net i x (second net j)) (size net j) (eqb i j) x y
-unfolding locationDistance routes ends edgeEnds leastOf route stretch toNode byEnds insideDistance stretchOf
+unfolding locationDistance routes ends edgeEnds leastOf route stretch toNode byEnds insideDistance alongEdge
 inside-away net i x j y =
-    simp (least-none, plus-least, route-turned) (ap (λ d. least d (stretchOf (eqb i j) x y)) (least-exchange _ _ _ _))
+    simp (least-none, plus-least, route-turned) (ap (λ d. least d (alongEdge (eqb i j) x y)) (least-exchange _ _ _ _))

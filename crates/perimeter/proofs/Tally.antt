@@ -4,12 +4,12 @@ use mathlib.Core.Path.{_≡_, refl, ap, ap₂, _∙_}
 use Prim.Native.Nat.{ℕ, _+_, _*_, _≤_, _<_}
 use native.Mathlib.Numerals.{add-one}
 use native.Mathlib.Omega.{arith}
+use Rattle.model.proofs.Laws.Codes.{decode-code}
 use Rattle.model.specs.Counting.{sumBelow, one-if}
-use Rattle.model.specs.Distance.{Distance, exactly}
+use Rattle.model.specs.Distance.{Distance, exactly, decode}
 use Rattle.perimeter.specs.Counts.{CountedTo, Reached}
-use Rattle.perimeter.specs.Reach.{distanceOf, insidesAt}
+use Rattle.perimeter.specs.Reach.{insidesAt}
 use Rattle.perimeter.proofs.Candidates.{at-most-one}
-use Rattle.perimeter.proofs.Distances.{of-code}
 
 pub record Tallied (f : ℕ → ℕ) (n k count : ℕ) : Type 0 where
   pub to : k ≤ n
@@ -30,14 +30,14 @@ module _ (f : ℕ → ℕ) (n : ℕ) where
       record { is = rw e at (t .is); few = omega (arith, t .few) }
 
 -- what is reached is the distance that the code stands for
-reached-is : {d : Distance} {r : ℕ} → Reached d r → distanceOf r ≡ d
-reached-is {d} h = ap distanceOf (h .is) ∙ of-code d
+reached-is : {d : Distance} {r : ℕ} → Reached d r → decode r ≡ d
+reached-is {d} h = ap decode (h .is) ∙ decode-code d
 
 -- a node counts once, if it lies at exactly the radius
-pub node-counted : {d : Distance} {r n : ℕ} {b : Bool} (radius : ℕ) → Reached d r → b ≡ exactly (distanceOf r) radius → n ≡ one-if b → CountedTo 4 (one-if (exactly d radius)) n
+pub node-counted : {d : Distance} {r n : ℕ} {b : Bool} (radius : ℕ) → Reached d r → b ≡ exactly (decode r) radius → n ≡ one-if b → CountedTo 4 (one-if (exactly d radius)) n
 node-counted {b = b} radius h p q =
     record { is = q ∙ ap one-if (p ∙ ap (λ x. exactly x radius) (reached-is h)); few = omega (arith, at-most-one b q) }
 
 -- the locations inside an edge, from the codes of its ends
-pub ends-counted : {d e : Distance} {r s : ℕ} (size : ℕ) (own : Bool) (offset radius : ℕ) → Reached d r → Reached e s → insidesAt (distanceOf r) (distanceOf s) size own offset radius ≡ insidesAt d e size own offset radius
+pub ends-counted : {d e : Distance} {r s : ℕ} (size : ℕ) (own : Bool) (offset radius : ℕ) → Reached d r → Reached e s → insidesAt (decode r) (decode s) size own offset radius ≡ insidesAt d e size own offset radius
 ends-counted size own offset radius h k = ap₂ (λ x y. insidesAt x y size own offset radius) (reached-is h) (reached-is k)

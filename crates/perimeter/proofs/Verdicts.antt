@@ -5,32 +5,19 @@ use Prim.Native.Nat.{ℕ, suc, _-_, _≤_, _<_}
 use native.Mathlib.Numerals.{sub-one, one-add}
 use native.Mathlib.Omega.{arith}
 use lib.ListN.{length}
-use Rattle.model.specs.Checks.{networkCheck, loneEdgeCheck, loneOffsetCheck, locationsOverNetworkCheck}
+use Rattle.model.specs.Checks.{networkCheck, locationsOverNetworkCheck}
 use Rattle.model.specs.Location.{locationOf}
 use Rattle.model.specs.Perimeter.{perimeterCount}
 use Rattle.model.specs.Network.{Network, IsNode, edges, size}
-use Rattle.model.specs.Refusal.{orElse}
 use Rattle.model.specs.declared.check.Check.{Check}
 use Rattle.model.specs.declared.check.Check.the-variants.{Accepted, Refused}
 use Rattle.model.proofs.Laws.Checks.{locations-accepted}
 use Rattle.model.proofs.Laws.Refusal.{both-accepted}
 use Rattle.distance.proofs.Laws.Rows.{row-entry}
 use Rattle.distance.specs.Answers.{RowAnswered}
-use Rattle.perimeter.specs.Answers.{perimeterCheck, countedAnswer, perimeterAnswer}
+use Rattle.perimeter.specs.Answers.{countedAnswer, perimeterAnswer}
 use Rattle.perimeter.specs.declared.Counted.the-variants as answer
 use Rattle.perimeter.specs.Counts.{IsRow}
-
--- a check said twice in a row is said once
-or-else-twice : (a b : Check) → orElse a (orElse a (orElse b b)) ≡ orElse a b
-unfolding orElse
-or-else-twice Accepted Accepted = refl
-or-else-twice Accepted (Refused n p) = refl
-or-else-twice (Refused n p) b = refl
-
--- two locations that are the same one
-pub same-location : (net : Network) (edge offset : ℕ) → locationsOverNetworkCheck net edge offset edge offset ≡ perimeterCheck net edge offset
-unfolding locationsOverNetworkCheck perimeterCheck
-same-location net edge offset = ap (orElse (networkCheck net)) (or-else-twice (loneEdgeCheck net edge) (loneOffsetCheck net edge offset))
 
 -- an accepted centre
 pub record CentreAccepted (net : Network) (edge offset : ℕ) : Type 0 where
@@ -53,11 +40,11 @@ centre-accepted net edge offset p q =
 -- the answer: the count, or the refusal
 pub answer-count : (net : Network) (edge offset radius : ℕ) {r : Check} {n : ℕ} → r ≡ locationsOverNetworkCheck net edge offset edge offset → r ≡ Accepted → n ≡ perimeterCount net (locationOf net (edge - 1) offset) radius → answer.Count n ≡ perimeterAnswer net edge offset radius
 unfolding perimeterAnswer countedAnswer
-answer-count net edge offset radius p q e = rw (sym (same-location net edge offset) ∙ sym p ∙ q, ← sub-one edge) (ap answer.Count e)
+answer-count net edge offset radius p q e = rw (sym p ∙ q, ← sub-one edge) (ap answer.Count e)
 
 pub answer-refused : (net : Network) (edge offset radius : ℕ) {r : Check} {number place : ℕ} → r ≡ locationsOverNetworkCheck net edge offset edge offset → r ≡ Refused number place → answer.Refused number place ≡ perimeterAnswer net edge offset radius
 unfolding perimeterAnswer countedAnswer
-answer-refused net edge offset radius p q = rw (sym (same-location net edge offset) ∙ sym p ∙ q)
+answer-refused net edge offset radius p q = rw (sym p ∙ q)
 
 -- the row that is written
 pub row-written : {net : Network} {source bound : ℕ} {answers after : List ℕ} {r : Check} → RowAnswered net source bound answers r after → networkCheck net ≡ Accepted → IsNode net source → net .nodes ≤ length answers → IsRow net bound source after

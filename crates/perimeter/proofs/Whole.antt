@@ -5,8 +5,9 @@ use Prim.Native.Nat.{ℕ, pred, _+_, _-_, _≤_, _<_}
 use native.Mathlib.Omega.{arith}
 use lib.Dec.{eqb}
 use lib.ListN.{length, getD}
+use Rattle.model.proofs.Laws.Codes.{decode-code}
 use Rattle.model.specs.Counting.{sumBelow, numbersFrom}
-use Rattle.model.specs.Distance.{exactly, bounded}
+use Rattle.model.specs.Distance.{exactly, bounded, decode}
 use Rattle.model.specs.Location.{node, inside, locationOf, locationDistance}
 use Rattle.model.specs.Network.{Network, IsNode, EndsAreNodes, edges, first, second, size}
 use Rattle.model.specs.NodeDistance.{nodeDistance, boundedDistance}
@@ -15,10 +16,9 @@ use Rattle.model.proofs.Laws.Checks.{IsNetwork}
 use Rattle.model.proofs.Laws.Counting.{count-cong, sum-below-cong, count-below-cong}
 use Rattle.model.proofs.Laws.Location.{from-inside}
 use Rattle.perimeter.specs.Counts.{reached, nodesAt, edgeAt, Near, Standing, Prepared, IsRow}
-use Rattle.perimeter.specs.Reach.{distanceOf, insideDistance, insidesAt}
+use Rattle.perimeter.specs.Reach.{insideDistance, insidesAt}
 use Rattle.perimeter.specs.declared.counts.Centre.{Centre}
 use Rattle.perimeter.proofs.Alike.{Alike, alike-bounded, alike-least, alike-by-ends, alike-exactly}
-use Rattle.perimeter.proofs.Distances.{of-code}
 use Rattle.perimeter.proofs.Splits.{locations-count, toNode, node-away, inside-away}
 
 -- the centre at an offset of the edge at an index
@@ -27,9 +27,9 @@ centreAt net i x radius = record { edge = i; offset = x; rest = size net i - x; 
 
 module _ (net : Network) (nodes : EndsAreNodes net) (i x radius : ℕ) (row1 row2 : List ℕ) (is1 : IsRow net radius (first net i) row1) (is2 : IsRow net radius (second net i) row2) where
   -- an entry stands for a distance that is alike
-  alike-entry : {source : ℕ} {row : List ℕ} → IsRow net radius source row → (k : ℕ) → k < net .nodes → Alike radius (distanceOf (getD row k 0)) (nodeDistance net source (1 + k))
+  alike-entry : {source : ℕ} {row : List ℕ} → IsRow net radius source row → (k : ℕ) → k < net .nodes → Alike radius (decode (getD row k 0)) (nodeDistance net source (1 + k))
   unfolding boundedDistance
-  alike-entry {source} r k l = ap (bounded radius) (ap distanceOf (r .entry k l) ∙ of-code _) ∙ alike-bounded radius (nodeDistance net source (1 + k))
+  alike-entry {source} r k l = ap (bounded radius) (ap decode (r .entry k l) ∙ decode-code _) ∙ alike-bounded radius (nodeDistance net source (1 + k))
 
   -- what is reached by the rows is alike to the distance from the offset
   alike-node : (k : ℕ) → k < net .nodes → Alike radius (reached (centreAt net i x radius) row1 row2 k) (toNode net i x (1 + k))

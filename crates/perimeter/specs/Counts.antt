@@ -6,16 +6,16 @@ use Prim.Native.Nat.{ℕ, _+_, _-_, _^_, _≤_, _<_}
 use lib.Dec.{eqb}
 use lib.ListN.{length, getD}
 use Rattle.model.specs.Counting.{countBelow}
-use Rattle.model.specs.Distance.{Distance, exactly, code}
+use Rattle.model.specs.Distance.{Distance, exactly, code, decode}
 use Rattle.model.specs.Limits.{maxEdges}
 use Rattle.model.specs.Network.{Network}
 use Rattle.model.specs.NodeDistance.{boundedDistance}
-use Rattle.perimeter.specs.Reach.{distanceOf, byEnds, insidesAt, farthest}
+use Rattle.perimeter.specs.Reach.{byEnds, insidesAt, farthest}
 use Rattle.perimeter.specs.declared.counts.Centre.{Centre}
 
 -- from the centre to the node at index k
 unfoldable pub reached : Centre → List ℕ → List ℕ → ℕ → Distance
-reached c row1 row2 k = byEnds (c .offset) (c .rest) (distanceOf (getD row1 k 0)) (distanceOf (getD row2 k 0))
+reached c row1 row2 k = byEnds (c .offset) (c .rest) (decode (getD row1 k 0)) (decode (getD row2 k 0))
 
 -- how many nodes lie at exactly the radius
 unfoldable pub nodesAt : Centre → List ℕ → List ℕ → ℕ → ℕ

@@ -2,27 +2,17 @@
 ghost use mathlib.Core.Path.{_≡_};
 ghost use Prim.Native.Nat.{_≤_};
 ghost use Rattle.model.specs.Counting.{one-if};
-ghost use Rattle.model.specs.Distance.{code, least, plus, metres, exactly};
-ghost use Rattle.perimeter.specs.Reach.{distanceOf, byEnds, stretchOf, leftOf, farthest};
+ghost use Rattle.model.specs.Distance.{code, plus, metres, exactly, decode};
+ghost use Rattle.model.specs.Location.{alongEdge};
+ghost use Rattle.perimeter.specs.Reach.{byEnds, leftOf, farthest};
+use model::apart;
 use model::less;
-
-// The lesser of two.
-pub(crate) fn lesser(a: u64, b: u64) -> u64
-    ensures { λ r. ⌜ r ≡ code (least (distanceOf a) (distanceOf b)) ⌝ }
-{
-    if a == 0 {
-        return b;
-    }
-    if b == 0 {
-        return a;
-    }
-    if a < b { a } else { b }
-}
+use model::lesser_code;
 
 // A distance after so many metres.
 fn after(gap: u64, c: u64) -> u64
     requires { ⌜ (gap ≤ farthest) × (c ≤ farthest) ⌝ }
-    ensures { λ r. ⌜ r ≡ code (plus (metres gap) (distanceOf c)) ⌝ }
+    ensures { λ r. ⌜ r ≡ code (plus (metres gap) (decode c)) ⌝ }
 {
     if c == 0 {
         return 0;
@@ -34,25 +24,25 @@ fn after(gap: u64, c: u64) -> u64
 pub(crate) fn by_ends(gap1: u64, gap2: u64, end1: u64, end2: u64) -> u64
     requires { ⌜ (gap1 ≤ farthest) × (gap2 ≤ farthest) ⌝ }
     requires { ⌜ (end1 ≤ farthest) × (end2 ≤ farthest) ⌝ }
-    ensures { λ r. ⌜ r ≡ code (byEnds gap1 gap2 (distanceOf end1) (distanceOf end2)) ⌝ }
+    ensures { λ r. ⌜ r ≡ code (byEnds gap1 gap2 (decode end1) (decode end2)) ⌝ }
 {
-    lesser(after(gap1, end1), after(gap2, end2))
+    lesser_code(after(gap1, end1), after(gap2, end2))
 }
 
 // Along one edge from one offset to another; none where they lie on different edges.
 pub(crate) fn stretch(own: bool, x: u64, y: u64) -> u64
     requires { ⌜ (x ≤ farthest) × (y ≤ farthest) ⌝ }
-    ensures { λ r. ⌜ r ≡ code (stretchOf own x y) ⌝ }
+    ensures { λ r. ⌜ r ≡ code (alongEdge own x y) ⌝ }
 {
     if !own {
         return 0;
     }
-    less(x, y) + less(y, x) + 1
+    apart(x, y) + 1
 }
 
 // What a distance leaves of the radius, 0 if nothing or if there is none.
 pub(crate) fn left(radius: u64, c: u64) -> u64
-    ensures { λ r. ⌜ r ≡ leftOf radius (distanceOf c) ⌝ }
+    ensures { λ r. ⌜ r ≡ leftOf radius (decode c) ⌝ }
 {
     if c == 0 {
         return 0;
@@ -63,7 +53,7 @@ pub(crate) fn left(radius: u64, c: u64) -> u64
 // At exactly the radius.
 pub(crate) fn is_at(c: u64, radius: u64) -> bool
     requires { ⌜ radius ≤ farthest ⌝ }
-    ensures { λ r. ⌜ r ≡ exactly (distanceOf c) radius ⌝ }
+    ensures { λ r. ⌜ r ≡ exactly (decode c) radius ⌝ }
 {
     c == radius + 1
 }

@@ -8,10 +8,10 @@ ghost use Rattle.perimeter.specs.Sight.{lies, met, InSight, MetCounted};
 use crate::codes::by_ends;
 use crate::codes::is_at;
 use crate::codes::left;
-use crate::codes::lesser;
 use crate::codes::one;
 use crate::codes::stretch;
 use model::less;
+use model::lesser_code;
 
 // An edge as seen from the centre: the codes of its ends' distances, its length, and whether the centre lies on it.
 pub struct Sight {
@@ -28,7 +28,7 @@ fn lies_at(s: Sight, y: u64) -> u64
     requires { ⌜ InSight s × (y ≤ s .length) ⌝ }
     ensures { λ r. ⌜ r ≡ code (lies s y) ⌝ }
 {
-    lesser(
+    lesser_code(
         by_ends(y, s.length - y, s.end1, s.end2),
         stretch(s.own, s.offset, y),
     )

@@ -1,13 +1,8 @@
 -- Two edges: what the codes between their ends stand for.
-use Prim.Native.Nat.{ℕ, zero, suc}
-use Rattle.model.specs.Distance.{Distance, metres, none}
+use Prim.Native.Nat.{ℕ}
+use Rattle.model.specs.Distance.{Distance, decode}
 use Rattle.model.specs.Location.{Side, at-first, at-second}
 use Rattle.sweep.specs.declared.sweeping.Edges.{Edges}
-
--- the distance that a code stands for
-unfoldable pub decoded : ℕ → Distance
-decoded zero = none
-decoded (suc n) = metres n
 
 -- the code between an end of the first edge and one of the second, and the distance
 unfoldable pub codeBetween : Edges → Side → Side → ℕ
@@ -17,4 +12,4 @@ codeBetween w at-second at-first = w .sf
 codeBetween w at-second at-second = w .ss
 
 unfoldable pub distanceBetween : Edges → Side → Side → Distance
-distanceBetween w s s′ = decoded (codeBetween w s s′)
+distanceBetween w s s′ = decode (codeBetween w s s′)

@@ -4,7 +4,7 @@ use mathlib.Core.Path.{refl}
 use Rattle.model.specs.Counting.{sumBelow, one-if, countBelow, countIf, numbersFrom}
 use Rattle.model.specs.Distance.{least, plus, leastOf, leastBelow, within, exactly, difference}
 use Rattle.model.specs.NodeDistance.{crossing, direct, through, nodeDistance}
-use Rattle.model.specs.Location.{locationOf, edgeEnds, ends, route, routes, stretch, locationDistance}
+use Rattle.model.specs.Location.{locationOf, edgeEnds, ends, route, routes, alongEdge, stretch, locationDistance}
 use Rattle.model.specs.Events.{events, eventLocation, having, greatestSet}
 use Rattle.model.specs.PairCount.{eventDistance, isPair, pairCount}
 use Rattle.model.specs.Perimeter.{insides, locations, perimeterCount}
@@ -12,5 +12,5 @@ use Rattle.model.specs.Envelope.{widen, envelopeOf, countOfSet, observed
 use Rattle.model.specs.Cases.{Cases}
 
 pub cases : Cases
-unfolding sumBelow one-if countBelow countIf numbersFrom least plus leastOf leastBelow within exactly difference crossing direct through nodeDistance locationOf edgeEnds ends route routes stretch locationDistance events eventLocation having greatestSet eventDistance isPair pairCount insides locations perimeterCount widen envelopeOf countOfSet observed envelope
+unfolding sumBelow one-if countBelow countIf numbersFrom least plus leastOf leastBelow within exactly difference crossing direct through nodeDistance locationOf edgeEnds ends route routes alongEdge stretch locationDistance events eventLocation having greatestSet eventDistance isPair pairCount insides locations perimeterCount widen envelopeOf countOfSet observed envelope
 cases = record { p1-to-p4 = refl; p5-to-p9 = refl; p10 = refl }

@@ -10,7 +10,7 @@ use borrow.Author.Tests.{eqb-true, eqb-false, eq-eqb}
 use lib.Dec.{eqb}
 use Rattle.model.specs.Distance.{Distance, metres, none, least, plus, leastOf, difference}
 use Rattle.model.specs.Events.{Event, IsEvent, eventLocation}
-use Rattle.model.specs.Location.{Location, node, inside, locationOf, IsLocation, a-node, an-inside, End, end, edgeEnds, ends, LocationWalk, by-ends, along, route, routes, stretch, locationDistance, edgeDistance}
+use Rattle.model.specs.Location.{Location, node, inside, locationOf, IsLocation, a-node, an-inside, End, end, edgeEnds, ends, LocationWalk, by-ends, along, route, routes, alongEdge, stretch, locationDistance, IsLocationDistance, edgeDistance}
 use Rattle.model.specs.Network.{Network, IsNode, EndsAreNodes, edges, first, second, size}
 use Rattle.model.specs.Walk.{Walk, here, IsLeast, attained, no-walk, forward, backward}
 use Rattle.model.proofs.Laws.Least.{least-unique, least-map}
@@ -24,7 +24,7 @@ data StretchWalk : Location → Location → ℕ → Type 0 where
 
 -- the stretch is the least of its kind
 stretch-least : (p q : Location) → IsLeast (StretchWalk p q) (stretch p q)
-unfolding stretch
+unfolding stretch alongEdge
 stretch-least (node v) q = no-walk (λ n s. elim s [ ])
 stretch-least (inside i x) (node w) = no-walk (λ n s. elim s [ ])
 stretch-least (inside i x) (inside j y) = go (eqb i j) refl
@@ -54,7 +54,7 @@ walk-along : {net : Network} {p q : Location} (n : ℕ) → StretchWalk p q n �
 walk-along n (on-one-edge e f) = rw (← e) (location-walk-as along f)
 
 -- 01: the distance of two places is the least length over the walks between them
-pub location-distance : (net : Network) → EndsAreNodes net → (p q : Location) → IsLeast (LocationWalk net p q) (locationDistance net p q)
+pub location-distance : (net : Network) → EndsAreNodes net → (p q : Location) → IsLocationDistance net p q (locationDistance net p q)
 unfolding locationDistance
 location-distance net nodes p q =
     least-map
@@ -81,7 +81,7 @@ least-zero d = least-comm d (metres 0) ∙ least-of-le (zero-le d)
 
 -- a location is at 0 metres from itself
 pub location-self : (net : Network) (p : Location) → locationDistance net p p ≡ metres 0
-unfolding locationDistance routes ends leastOf route stretch least plus difference
+unfolding locationDistance routes ends leastOf route stretch alongEdge least plus difference
 location-self net (node v) = rw node-self
 location-self net (inside i x) =
     let none-apart : difference x x ≡ 0 = omega arith in

@@ -9,7 +9,7 @@ use borrow.Author.Tests.{eq-eqb, eqb-true}
 use Rattle.model.specs.Network.{Network, edges, first, second, size, IsNode, EndsAreNodes}
 use Rattle.model.specs.Distance.{Distance, metres, none, least, plus, leastBelow}
 use Rattle.model.specs.Walk.{Joins, forward, backward, Walk, here, onward, IsLeast}
-use Rattle.model.specs.NodeDistance.{crossing, direct, through, nodeDistance, boundedDistance}
+use Rattle.model.specs.NodeDistance.{crossing, direct, through, nodeDistance, boundedDistance, IsNodeDistance, IsBoundedDistance}
 use Rattle.model.proofs.Laws.Distance.{Le, zero-le, in-order, le-refl, le-trans, le-antisym, le-of-eq, least-left, least-right, least-greatest, plus-assoc, plus-monotone, le-plus-left, le-plus-right, plus-least, least-plus}
 use Rattle.model.proofs.Laws.Least.{below-each, Reached, reached-least, reached-plus, reached-below, is-least, least-reached, least-le, least-unique, least-map, least-bounded}
 
@@ -193,13 +193,13 @@ node-below {net} valid (onward {u = u} {v = v} {w = w} {n = n} i h p j) =
     is-node = joined-node valid i v w h j
 
 -- 01: the node distance is the least length over all walks
-pub node-distance : (net : Network) → EndsAreNodes net → (u v : ℕ) → IsLeast (Walk net u v) (nodeDistance net u v)
+pub node-distance : (net : Network) → EndsAreNodes net → (u v : ℕ) → IsNodeDistance net u v (nodeDistance net u v)
 unfolding nodeDistance
 node-distance net valid u v =
     is-least (Walk net u v) (nodeDistance net u v) (through-reached net (net .nodes) u v) (λ n w. node-below valid w)
 
 -- 01: what a bounded search gives is the least length over the walks no longer than the bound
-pub bounded-distance : (net : Network) → EndsAreNodes net → (bound u v : ℕ) → IsLeast (λ n. Walk net u v n × (n ≤ bound)) (boundedDistance net bound u v)
+pub bounded-distance : (net : Network) → EndsAreNodes net → (bound u v : ℕ) → IsBoundedDistance net bound u v (boundedDistance net bound u v)
 unfolding boundedDistance
 bounded-distance net valid bound u v = least-bounded (node-distance net valid u v) bound
 

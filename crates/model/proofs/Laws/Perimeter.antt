@@ -6,12 +6,11 @@ use mathlib.Core.Path.{_≡_, refl, sym, ap, subst, _∙_}
 use Prim.Native.Nat.{ℕ, zero, suc, pred, _≤_, _<_}
 use native.Mathlib.Omega.{arith}
 use borrow.Author.Tests.{eqb-true, eq-eqb}
-use lib.ListN.{length}
 use Rattle.model.specs.Counting.{numbersFrom, NoRepeats}
 use Rattle.model.specs.Network.{Network, edges, size}
 use Rattle.model.specs.Distance.{Distance, metres, none, exactly}
 use Rattle.model.specs.Location.{Location, node, inside, IsLocation, a-node, an-inside, locationDistance}
-use Rattle.model.specs.Perimeter.{insides, locations, perimeterCount}
+use Rattle.model.specs.Perimeter.{insides, locations, perimeterCount, CountsAt}
 use Rattle.model.proofs.Laws.Lists.{no-repeats-append, no-repeats-map, numbers-only, numbers-hold, numbers-no-repeats, passing, passing-length, passing-only, passing-holds, passing-no-repeats}
 use Rattle.model.proofs.Laws.Rows.{rows, rows-only, rows-hold, rows-no-repeats}
 
@@ -100,16 +99,7 @@ pub exactly-is : (d : Distance) (t : ℕ) → d ≡ metres t → exactly d t ≡
 unfolding exactly
 exactly-is d t e = rw e (eq-eqb t t refl)
 
--- count is the number of locations of the network at exactly that distance from the centre:
--- a list with no repeats that holds exactly those locations has that length
-pub record CountsAt (net : Network) (centre : Location) (radius count : ℕ) : Type 0 where
-  pub places : List Location
-  pub no-repeats : NoRepeats places
-  pub all-locations : (p : Location) → List·Memᴰ p places → IsLocation net p
-  pub all-at : (p : Location) → List·Memᴰ p places → locationDistance net centre p ≡ metres radius
-  pub holds-all : (p : Location) → IsLocation net p → locationDistance net centre p ≡ metres radius → List·Memᴰ p places
-  pub as-many : length places ≡ count
-
+-- 01: the perimeter count is the number of different places at exactly that distance
 pub perimeter-counts : (net : Network) (centre : Location) (radius : ℕ) → CountsAt net centre radius (perimeterCount net centre radius)
 unfolding perimeterCount
 perimeter-counts net centre radius =

@@ -10,7 +10,7 @@ use Rattle.model.proofs.Laws.Location.{edge-distance}
 use Rattle.model.proofs.Laws.Within.{within-least, within-bounded, bounded-plus-left, bounded-plus-right}
 use Rattle.model.specs.Distance.{Distance, metres, none, least, plus, leastOf, within, bounded, code, difference}
 use Rattle.model.specs.Events.{Event, IsEvent, eventLocation}
-use Rattle.model.specs.Location.{Side, at-first, at-second, endNode, gap, reaches, edgeEnds, route, routes, edgeDistance, locationOf}
+use Rattle.model.specs.Location.{Side, at-first, at-second, endNode, gap, reaches, edgeEnds, route, routes, alongEdge, edgeDistance, locationOf}
 use Rattle.model.specs.Network.{Network, EndsAreNodes, edges, first, second, size}
 use Rattle.model.specs.NodeDistance.{nodeDistance, boundedDistance}
 use Rattle.model.specs.PairCount.{eventDistance}
@@ -32,7 +32,7 @@ stretch-within false n t = refl
 
 -- within the threshold exactly when some route reaches, or on one edge the stretch does
 pub within-routes : (net : Network) (i x j y t : ℕ) → within (edgeDistance net i x j y) t ≡ some-route t (between net i j) (size net i) x (size net j) y || (eqb i j && leb (difference x y) t)
-unfolding edgeDistance routes edgeEnds leastOf route reaches endNode gap
+unfolding edgeDistance alongEdge routes edgeEnds leastOf route reaches endNode gap
 within-routes net i x j y t = simp (least-none, within-least, stretch-within)
 
 -- a distance bounded by no less than the threshold reaches as far

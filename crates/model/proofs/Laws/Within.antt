@@ -7,7 +7,7 @@ use native.Mathlib.Omega.{arith}
 use native.Mathlib.Decide.{decLe}
 use lib.Dec.{leb, eqb}
 use borrow.Author.Tests.{le-leb, lt-leb, leb-true, leb-false, ne-eqb}
-use Rattle.model.specs.Distance.{Distance, metres, none, least, plus, within, exactly, bounded, code}
+use Rattle.model.specs.Distance.{Distance, metres, none, least, plus, within, exactly, bounded}
 use Rattle.model.proofs.Laws.Distance.{Le, le-metres, le-none, in-order, le-refl, le-trans, le-total, least-comm, least-of-le, plus-comm, none-plus, le-plus-left}
 
 -- within t means below t metres
@@ -128,11 +128,3 @@ bounded-plus-left t d e =
 pub bounded-plus-right : (t : ℕ) (d e : Distance) → bounded t (plus d (bounded t e)) ≡ bounded t (plus d e)
 bounded-plus-right t d e =
     ap (bounded t) (plus-comm d (bounded t e)) ∙ bounded-plus-left t e d ∙ ap (bounded t) (plus-comm e d)
-
--- a distance can be told by its code
-pub code-unique : (d e : Distance) → code d ≡ code e → d ≡ e
-unfolding code
-code-unique (metres m) (metres n) p = ap metres (omega arith)
-code-unique (metres m) none p = absurd (omega arith)
-code-unique none (metres n) p = absurd (omega arith)
-code-unique none none p = refl

@@ -9,11 +9,11 @@ use borrow.Author.Tests.{lt-leb}
 use lib.ListN.{length}
 use Rattle.model.proofs.Laws.Counting.{sum-below-zero}
 use Rattle.model.proofs.Laws.Cover.{none-pass}
-use Rattle.model.specs.Distance.{Distance, plus, within}
+use Rattle.model.specs.Distance.{Distance, plus, within, decode}
 use Rattle.model.specs.Location.{Side, at-first, at-second, gap, reaches}
 use Rattle.sweep.proofs.Laws.Positions.{reaches-less}
 use Rattle.neighbor_sharing.specs.Joined.{reachedBy, isReached, reachedPairs, Beyond}
-use Rattle.sweep.specs.Ends.{decoded, codeBetween, distanceBetween}
+use Rattle.sweep.specs.Ends.{codeBetween, distanceBetween}
 use Rattle.sweep.specs.declared.sweeping.Edges.{Edges}
 
 -- two edges with equal entries
@@ -21,12 +21,12 @@ pub same-edges : {p q : ℕ} {same : Bool} {ff fs sf ss ff′ fs′ sf′ ss′ 
 same-edges {p} {q} {same} a b c d = λ k. record { long1 = p; long2 = q; same = same; ff = a k; fs = b k; sf = c k; ss = d k }
 
 -- a route without gaps, read off its code
-pub no-route : (t code : ℕ) → code ≡ 0 → reaches t 0 (decoded code) 0 ≡ false
-unfolding decoded reaches plus within
+pub no-route : (t code : ℕ) → code ≡ 0 → reaches t 0 (decode code) 0 ≡ false
+unfolding decode reaches plus within
 no-route t code e = rw e refl
 
-pub longer : (t code : ℕ) → 1 ≤ code → t < code - 1 → reaches t 0 (decoded code) 0 ≡ false
-unfolding decoded reaches plus within
+pub longer : (t code : ℕ) → 1 ≤ code → t < code - 1 → reaches t 0 (decode code) 0 ≡ false
+unfolding decode reaches plus within
 longer t zero h l = absurd (omega arith)
 longer t (suc n) h l = lt-leb (0 + n + 0) t (omega arith)
 
@@ -54,7 +54,7 @@ unfolding reachedPairs
 no-pairs t w xs ys off = sym (sum-below-zero (length xs) _ (λ k h. none-pass _ ys (λ l m. off _ _)))
 
 -- the four routes one by one
-four-routes : (t : ℕ) (w : Edges) → reaches t 0 (decoded (w .ff)) 0 ≡ false → reaches t 0 (decoded (w .fs)) 0 ≡ false → reaches t 0 (decoded (w .sf)) 0 ≡ false → reaches t 0 (decoded (w .ss)) 0 ≡ false → (s s′ : Side) → reaches t 0 (distanceBetween w s s′) 0 ≡ false
+four-routes : (t : ℕ) (w : Edges) → reaches t 0 (decode (w .ff)) 0 ≡ false → reaches t 0 (decode (w .fs)) 0 ≡ false → reaches t 0 (decode (w .sf)) 0 ≡ false → reaches t 0 (decode (w .ss)) 0 ≡ false → (s s′ : Side) → reaches t 0 (distanceBetween w s s′) 0 ≡ false
 unfolding distanceBetween codeBetween
 four-routes t w ff fs sf ss at-first at-first = ff
 four-routes t w ff fs sf ss at-first at-second = fs
@@ -63,7 +63,7 @@ four-routes t w ff fs sf ss at-second at-second = ss
 
 -- a number of metres that a route is not shorter than
 abbrev pub Longer : ℕ → ℕ → Type 0
-Longer code n = (t : ℕ) → t < n → reaches t 0 (decoded code) 0 ≡ false
+Longer code n = (t : ℕ) → t < n → reaches t 0 (decode code) 0 ≡ false
 
 pub below-nearest : (w : Edges) {a b c d : ℕ} → w .same ≡ false → Longer (w .ff) a → Longer (w .fs) b → Longer (w .sf) c → Longer (w .ss) d → (n : ℕ) → n ≡ min (min a b) (min c d) → Beyond w n
 below-nearest w {a} {b} {c} {d} two ff fs sf ss n e =

@@ -7,7 +7,8 @@ use native.Mathlib.Numerals.{add-one, sub-one}
 use native.Mathlib.Omega.{arith}
 use lib.Dec.{eqb, leb}
 use lib.ListN.{length, getD, take, drop}
-use Rattle.model.specs.Distance.{Distance, difference, within}
+use Rattle.model.proofs.Laws.Codes.{decode-code}
+use Rattle.model.specs.Distance.{Distance, difference, within, decode}
 use Rattle.model.specs.Events.{event}
 use Rattle.model.specs.Limits.{maxEvents}
 use Rattle.model.specs.Location.{Side, at-first, at-second, endNode}
@@ -23,10 +24,9 @@ use Rattle.prepare.specs.Totals.{Steps, ReadyAt, AddedAt}
 use Rattle.prepare.proofs.Laws.RunPairs.{TwoRead, run-is, run-codes}
 use Rattle.prepare.proofs.Laws.Totals.{to-greatest}
 use Rattle.neighbor_sharing.proofs.Laws.Apart.{no-pairs}
-use Rattle.sweep.proofs.Laws.Kinds.{decoded-code}
 use Rattle.neighbor_sharing.specs.Joined.{reachedBy, isReached, reachedPairs, Beyond}
 use Rattle.neighbor_sharing.specs.Runs.{tableEdges}
-use Rattle.sweep.specs.Ends.{decoded, codeBetween, distanceBetween}
+use Rattle.sweep.specs.Ends.{codeBetween, distanceBetween}
 use Rattle.sweep.specs.Six.{Laid, EdgesLaid}
 use Rattle.sweep.specs.declared.sweeping.Edges.{Edges}
 
@@ -60,7 +60,7 @@ module _ {net : Network} {table es xs bounds : List ℕ} {r q t : ℕ} (w : Runs
 
     distances-are : (s s′ : Side) → distanceBetween (tableEdges net table i j) s s′ ≡ boundedDistance net (w .bound) (endNode net i s) (endNode net j s′)
     unfolding distanceBetween
-    distances-are s s′ = ap decoded (codes-are net table i j s s′ ∙ run-codes w a b ha la hb lb s s′) ∙ decoded-code _
+    distances-are s s′ = ap decode (codes-are net table i j s s′ ∙ run-codes w a b ha la hb lb s s′) ∙ decode-code _
 
     -- an event of each
     reached-within : (k l : ℕ) → k < length xs-a → l < length xs-b → isReached t (tableEdges net table i j) (getD xs-a k 0) (getD xs-b l 0) ≡ within (eventDistance net (event (edgeOf es bounds a) (getD xs-a k 0)) (event (edgeOf es bounds b) (getD xs-b l 0))) t

@@ -7,6 +7,7 @@ use native.Mathlib.Nat.{mul-le-mul}
 use native.Mathlib.Omega.{arith}
 use lib.ListN.{length, getD, drop, drop-of-length-le}
 use lib.Seq.{drop-cons}
+use Rattle.model.specs.Distance.{decode}
 use Rattle.model.specs.Limits.{maxEvents, maxPairs}
 use Rattle.model.specs.Counting.{sumBelow}
 use Rattle.model.specs.Location.{Side, at-first, at-second}
@@ -19,7 +20,7 @@ use Rattle.sweep.proofs.Laws.Positions.{position-on, position-in, below-on, up-
 use Rattle.sweep.specs.Cursors.{position, below, upTo, rest}
 use Rattle.neighbor_sharing.proofs.Laws.Joined.{left-few}
 use Rattle.neighbor_sharing.specs.Joined.{joinedOf, joinedFrom, sharedFrom, shared, sweptSum}
-use Rattle.sweep.specs.Ends.{decoded, codeBetween, distanceBetween}
+use Rattle.sweep.specs.Ends.{codeBetween, distanceBetween}
 use Rattle.sweep.specs.Six.{EdgesLaid}
 use Rattle.neighbor_sharing.specs.Stands.{routeStand, standsAt, standsAtRest, standsMoved, routeMoved, standOf, RouteMovable, StandsMovable}
 use Rattle.prepare.specs.Offsets.{Ordered}
@@ -37,7 +38,7 @@ module _ (t : ℕ) (w : Edges) (ys : List ℕ) (x : ℕ) where
     route-stands h =
         ap (λ (k : Cursor). standing k (w .long2) ys x) made
         ∙ route-or-none-standing t (w .long1) (w .long2) code first1 first2 ys x h
-        ∙ ap (λ (k : ℕ). position t (w .long1) (sideOf first1) (decoded k) (w .long2) (sideOf first2) ys x) told
+        ∙ ap (λ (k : ℕ). position t (w .long1) (sideOf first1) (decode k) (w .long2) (sideOf first2) ys x) told
 
     route-can : {from : ℕ} → RouteMovable t w (sideOf first1) (sideOf first2) ys x from → Movable c (w .long2) ys x from
     route-can asked =

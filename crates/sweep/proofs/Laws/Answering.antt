@@ -8,8 +8,10 @@ use borrow.Author.Tests.{eq-eqb, ne-eqb}
 use lib.Dec.{eqb}
 use Rattle.layout.specs.Stretch.{StretchAnswered, stretchOf}
 use Rattle.model.proofs.Laws.Checks.{LaidOutAccepted, laid-out-accepted, network-accepts}
+use Rattle.model.proofs.Laws.Codes.{decode-code}
 use Rattle.model.specs.Answer.{written}
 use Rattle.model.specs.Checks.{laidOutCheck}
+use Rattle.model.specs.Distance.{decode}
 use Rattle.model.specs.Events.{having}
 use Rattle.model.specs.Location.{Side, at-first, at-second, endNode}
 use Rattle.model.specs.Network.{Network}
@@ -17,11 +19,10 @@ use Rattle.model.specs.NodeDistance.{boundedDistance}
 use Rattle.model.specs.declared.check.Check.{Check}
 use Rattle.model.specs.declared.check.Check.the-variants.{Accepted, Refused}
 use Rattle.sweep.proofs.Laws.AnsweringCheck.{CursorsAccepted}
-use Rattle.sweep.proofs.Laws.Kinds.{decoded-code}
 use Rattle.sweep.proofs.Laws.OnEdges.{laid-on-edge}
 use Rattle.sweep.specs.Answers.{cursorsCheck, cursorPositions, cursorMoves, routePositions, routeMoves, CursorsAnswered}
 use Rattle.sweep.specs.Asked.{TwoEdges, EdgesFound, CursorsWritten}
-use Rattle.sweep.specs.Ends.{decoded, distanceBetween}
+use Rattle.sweep.specs.Ends.{distanceBetween}
 use Rattle.sweep.specs.Six.{routeMarks, routeSum, windowMarks, windowSum, sixMarks, sixSums, EdgesSweepable, EdgesSwept}
 use Rattle.sweep.specs.declared.sweeping.Edges.{Edges}
 
@@ -69,7 +70,7 @@ module _ {net : Network} {es xs : List ℕ} {e f : ℕ} {ps ms : List ℕ} (ok :
 
     between-is : (s s′ : Side) → distanceBetween w s s′ ≡ boundedDistance net bound (endNode net (pred e) s) (endNode net (pred f) s′)
     unfolding distanceBetween
-    between-is s s′ = ap decoded (found .codes-are s s′) ∙ decoded-code _
+    between-is s s′ = ap decode (found .codes-are s s′) ∙ decode-code _
 
     same-is : w .same ≡ eqb e f
     same-is = found .same-is ∙ same-number e f (first-is .is-edge .from) (second-is .is-edge .from)

@@ -9,19 +9,12 @@ use borrow.Author.Tests.{le-leb, lt-leb, lt-ltb, le-ltb}
 use borrow.Author.Fill.{fill-more}
 use lib.Dec.{leb, ltb}
 use lib.ListN.{length, getD, set, drop, replicate, length-append, length-replicate, drop-of-length-le}
-use Rattle.model.specs.Distance.{Distance, metres, none, code, plus, within}
+use Rattle.model.specs.Distance.{Distance, metres, none, code, plus, within, decode}
 use Rattle.model.specs.Location.{gap, reaches}
 use Rattle.model.proofs.Laws.Counting.{count-cong}
 use Rattle.sweep.specs.Cursors.{position, below, upTo}
-use Rattle.sweep.specs.Ends.{decoded}
 use Rattle.sweep.specs.Moving.{sideOf, reach, routeCursor, routeOrNone, belowCursor, upToCursor}
 use Rattle.sweep.specs.Sweeping.{reached, standing}
-
--- a code stands for the distance that it was made of
-pub decoded-code : (d : Distance) → decoded (code d) ≡ d
-unfolding decoded code
-decoded-code none = refl
-decoded-code (metres n) = refl
 
 -- what is left of the threshold for the second edge
 route-reach : (t p n x : ℕ) (falling first : Bool) → x ≤ p → reach (routeCursor t p falling (suc n) first) x ≡ suc t - (gap p (sideOf falling) x + n)
@@ -48,8 +41,8 @@ unfolding reach
 none-reach t p x true first h = omega arith
 none-reach t p x false first h = omega arith
 
-pub route-or-none-standing : (t p q code : ℕ) (falling first : Bool) (ys : List ℕ) (x : ℕ) → x ≤ p → standing (routeOrNone t p falling code first) q ys x ≡ position t p (sideOf falling) (decoded code) q (sideOf first) ys x
-unfolding standing reached routeOrNone decoded position reaches plus within
+pub route-or-none-standing : (t p q code : ℕ) (falling first : Bool) (ys : List ℕ) (x : ℕ) → x ≤ p → standing (routeOrNone t p falling code first) q ys x ≡ position t p (sideOf falling) (decode code) q (sideOf first) ys x
+unfolding standing reached routeOrNone decode position reaches plus within
 route-or-none-standing t p q zero falling first ys x h =
     count-cong _ _ ys (λ y. ap (ltb (gap q (sideOf first) y)) (none-reach t p x falling first h) ∙ le-ltb (gap q (sideOf first) y) 0 (omega arith))
 route-or-none-standing t p q (suc n) falling first ys x h = route-standing t p q n falling first ys x h

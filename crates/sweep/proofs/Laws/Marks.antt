@@ -7,11 +7,11 @@ use native.Mathlib.Omega.{arith}
 use lib.Dec.{eqb, eqb·suc-zero}
 use lib.ListN.{length, getD, take, drop, replicate, length-map, length-replicate}
 use lib.Seq.{drop-drop}
-use Rattle.model.specs.Distance.{Distance, metres, none}
+use Rattle.model.specs.Distance.{Distance, metres, none, decode}
 use Rattle.sweep.proofs.Laws.Kinds.{map-agree, route-standing}
 use Rattle.sweep.specs.Answers.{marked, markedIf}
 use Rattle.sweep.specs.Cursors.{position, positions, rest, moves}
-use Rattle.sweep.specs.Ends.{decoded, codeBetween, distanceBetween}
+use Rattle.sweep.specs.Ends.{codeBetween, distanceBetween}
 use Rattle.sweep.specs.Six.{routeMarks, routeSum, placed, Laid, PartSwept, RouteSwept}
 use Rattle.sweep.specs.Moving.{sideOf, routeCursor}
 use Rattle.sweep.specs.Sweeping.{standing, resting, Swept}
@@ -50,7 +50,7 @@ part-swept true c q xs ys from l r out l′ e done put =
 
 -- a route's cursor, by its code
 pub route-part : (t : ℕ) (w : Edges) (first1 first2 : Bool) (xs ys : List ℕ) (from code : ℕ) (c : Cursor) (l : List ℕ) (r : ℕ) (l′ : List ℕ) → code ≡ codeBetween w (sideOf first1) (sideOf first2) → c ≡ routeCursor t (w .long1) first1 code first2 → Laid (w .long1) xs → PartSwept (not (eqb code 0)) c (w .long2) xs ys from l r l′ → RouteSwept t w (sideOf first1) (sideOf first2) xs ys from l r l′
-unfolding routeMarks routeSum distanceBetween decoded positions marked markedIf resting routeCursor
+unfolding routeMarks routeSum distanceBetween decode positions marked markedIf resting routeCursor
 route-part t w first1 first2 xs ys from zero c l r l′ told made laid done =
     record {
       positions-are = done .positions-are ∙ ap (λ (m : List ℕ). placed from m l) (zeros (λ x. 0) xs (λ n. refl) ∙ ap (λ (n : ℕ). replicate n 0) (sym (length-map xs (at none))) ∙ sym (zeros (marked none) (map (at none) xs) (λ n. refl)) ∙ ap (λ (d : Distance). map (marked d) (map (at d) xs)) (sym beyond));
@@ -60,7 +60,7 @@ route-part t w first1 first2 xs ys from zero c l r l′ told made laid done =
     at : Distance → ℕ → ℕ
     at d = position t (w .long1) (sideOf first1) d (w .long2) (sideOf first2) ys
 
-    beyond : decoded (codeBetween w (sideOf first1) (sideOf first2)) ≡ none
+    beyond : decode (codeBetween w (sideOf first1) (sideOf first2)) ≡ none
     beyond = rw (sym told) refl
 route-part t w first1 first2 xs ys from (suc n) c l r l′ told made laid done =
     record {
@@ -74,7 +74,7 @@ route-part t w first1 first2 xs ys from (suc n) c l r l′ told made laid done =
     some : PartSwept true (routeCursor t (w .long1) first1 (suc n) first2) (w .long2) xs ys from l r l′
     some = rw (← made, ← ap not (eqb·suc-zero n)) done
 
-    found : decoded (codeBetween w (sideOf first1) (sideOf first2)) ≡ metres n
+    found : decode (codeBetween w (sideOf first1) (sideOf first2)) ≡ metres n
     found = rw (sym told) refl
 
     stands : (k : ℕ) → k < length xs → standing (routeCursor t (w .long1) first1 (suc n) first2) (w .long2) ys (getD xs k 0) ≡ at (metres n) (getD xs k 0)

@@ -1,5 +1,6 @@
 -- `entry_with`: the routes from both ends of the first edge, and the stretch.
 use native.Mathlib.Omega.{arith}
+use Rattle.model.proofs.Laws.Codes.{least-code}
 use Rattle.between.proofs.Asking.{can-ask}
 use Rattle.between.proofs.Routes.{at-edge, edge-code}
 use borrow.Author.Needs.{needs}
@@ -39,14 +40,14 @@ from-end-requires-2 c κs =
     let e = at-edge (start .pre .0 .0) in
     (can-ask (e .is-network) (e .second-is) (omega (arith, start .pre .1, c .before .before .before .before .before .from-end .kept)), (e .second-gap, start .pre .0 .1))
 
-lesser-requires : tie.Need-lesser-requires
-lesser-requires c κs = search needs
+lesser-entry-requires : tie.Need-lesser-entry-requires
+lesser-entry-requires c κs = search needs
 
 along-edge-requires : tie.Need-along-edge-requires
 along-edge-requires c κs = (at-edge (c .before .before .before .before .before .before .before .before .before .before .before .before .before .before .before .before .pre .0 .0) .first-gap, at-edge (c .before .before .before .before .before .before .before .before .before .before .before .before .before .before .before .before .pre .0 .1) .first-gap)
 
-lesser-requires-2 : tie.Need-lesser-requires-2
-lesser-requires-2 c κs = search needs
+lesser-entry-requires-2 : tie.Need-lesser-entry-requires-2
+lesser-entry-requires-2 c κs = search needs
 
 same-length : tie.Need-same-length
 same-length c = search needs
@@ -54,7 +55,7 @@ same-length c = search needs
 returns : tie.Need-returns
 returns c =
     edge-code _ _ _ _ _
-    (c .lesser2 .ensures _ _ (c .before .before .lesser .ensures _ _ (c .before .before .before .before .before .before .before .before .before .before .before .from-end .ensures) (c .before .before .before .before .before .from-end2 .ensures)) (c .before .along-edge .ensures))
+    (least-code _ _ (least-code _ _ (c .before .before .before .before .before .before .before .before .before .before .before .from-end .ensures) (c .before .before .before .before .before .from-end2 .ensures) (c .before .before .lesser-entry .ensures)) (c .before .along-edge .ensures) (c .lesser-entry2 .ensures))
 
 pub entry-with-spec : {M : Type 1} → statement M
 entry-with-spec =
@@ -69,8 +70,8 @@ entry-with-spec =
     shared-slice-read-from-end-3
     sub-from-end
     from-end-requires-2
-    lesser-requires
+    lesser-entry-requires
     along-edge-requires
-    lesser-requires-2
+    lesser-entry-requires-2
     same-length
     returns)

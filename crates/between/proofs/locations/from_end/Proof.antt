@@ -1,6 +1,7 @@
 -- `from_end`: the entries of the second edge's ends, with the gaps.
 use mathlib.Core.Path.{_∙_}
 use native.Mathlib.Omega.{arith}
+use Rattle.model.proofs.Laws.Codes.{least-code}
 use Rattle.model.specs.Location.{route}
 use Rattle.between.proofs.Asking.{found}
 use Rattle.between.proofs.Routes.{at-edge, from-end-code}
@@ -52,8 +53,8 @@ with-gaps-requires-2 c κs =
     let e = at-edge (c .before .before .before .before .before .before .before .before .before .before .before .before .before .before .before .before .pre .1 .1) in
     (c .before .before .before .before .before .before .before .before .before .before .before .before .before .before .before .before .pre .1 .0, rw (c .before .entry-of2 .ensures) (found (c .before .before .before .before .before .before .before .before .before .before .before .before .before .before .before .before .pre .0) (c .before .before .before .before .before .before .before .before .before .before .distances-from .ensures) (e .second-is) .small), e .second-gap)
 
-lesser-requires : tie.Need-lesser-requires
-lesser-requires c κs = search needs
+lesser-entry-requires : tie.Need-lesser-entry-requires
+lesser-entry-requires c κs = search needs
 
 same-length : tie.Need-same-length
 same-length c = search needs
@@ -64,7 +65,7 @@ returns c =
     let e = at-edge (c .before .before .before .before .before .before .before .before .before .before .before .before .before .before .before .before .before .before .pre .1 .1) in
     let answered = c .before .before .before .before .before .before .before .before .before .before .before .before .distances-from .ensures in
     from-end-code _ _ _ _
-    (c .lesser .ensures _ _ (c .before .before .before .before .before .before .with-gaps .ensures _ (c .before .before .before .before .before .before .before .entry-of .ensures ∙ found (c .before .before .before .before .before .before .before .before .before .before .before .before .before .before .before .before .before .before .pre .0) answered (e .first-is) .whole (omega arith))) (c .before .with-gaps2 .ensures _ (c .before .before .before .entry-of2 .ensures ∙ found (c .before .before .before .before .before .before .before .before .before .before .before .before .before .before .before .before .before .before .pre .0) answered (e .second-is) .whole (omega arith))))
+    (least-code _ _ (c .before .before .before .before .before .before .with-gaps .ensures _ (c .before .before .before .before .before .before .before .entry-of .ensures ∙ found (c .before .before .before .before .before .before .before .before .before .before .before .before .before .before .before .before .before .before .pre .0) answered (e .first-is) .whole (omega arith))) (c .before .with-gaps2 .ensures _ (c .before .before .before .entry-of2 .ensures ∙ found (c .before .before .before .before .before .before .before .before .before .before .before .before .before .before .before .before .before .before .pre .0) answered (e .second-is) .whole (omega arith))) (c .lesser-entry .ensures))
 
 pub from-end-spec : {M : Type 1} → statement M
 from-end-spec =
@@ -82,6 +83,6 @@ from-end-spec =
     shared-slice-read-with-gaps
     sub-with-gaps
     with-gaps-requires-2
-    lesser-requires
+    lesser-entry-requires
     same-length
     returns)

@@ -1,30 +1,24 @@
+use mathlib.Core.Path.{_∙_, ap}
+use Prim.Native.Nat.{ℕ, _+_}
 use borrow.Author.Tests.{not-true, not-false}
-use native.Mathlib.Omega.{arith}
-use Rattle.perimeter.proofs.Distances.{stretch-none, stretch-metres}
+use Rattle.model.specs.Distance.{difference}
+use Rattle.model.proofs.Laws.Codes.{along-none, along-metres}
 use borrow.Author.Needs.{needs}
 use Rattle.perimeter.proofs.codes.stretch.Statement.{statement}
 use Rattle.perimeter.proofs.codes.stretch.Tie as tie
 
 returns : tie.Need-returns
-returns c = stretch-none _ _ _ (not-true _ (c .if1 .taken))
+returns c = along-none _ _ _ (not-true _ (c .if1 .taken))
 
-less-requires : tie.Need-less-requires
-less-requires c κs = search needs
-
-less-requires-2 : tie.Need-less-requires-2
-less-requires-2 c κs = search needs
+apart-requires : tie.Need-apart-requires
+apart-requires c κs = search needs
 
 add-result : tie.Need-add-result
+unfolding difference
 add-result c = search needs
 
-add-result-2 : tie.Need-add-result-2
-add-result-2 c = search needs
-
 returns-2 : tie.Need-returns-2
-returns-2 c =
-    let a = c .before .before .before .args in
-    omega (arith, stretch-metres (a .own) (a .x) (a .y) (not-false (a .own) (c .before .before .if1 .left)), c .before .less .ensures, c .less2 .ensures)
+returns-2 c = ap (λ (n : ℕ). n + 1) (c .apart .ensures) ∙ along-metres _ _ _ (not-false _ (c .before .if1 .left))
 
 pub stretch-spec : {M : Type 1} → statement M
-stretch-spec =
-    tie.close (tie.spec returns less-requires less-requires-2 add-result add-result-2 returns-2)
+stretch-spec = tie.close (tie.spec returns apart-requires add-result returns-2)

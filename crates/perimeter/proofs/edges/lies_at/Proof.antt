@@ -1,4 +1,4 @@
-use Rattle.perimeter.proofs.Distances.{least-code}
+use Rattle.model.proofs.Laws.Codes.{least-code}
 use Rattle.perimeter.specs.Reach.{insideDistance}
 use Rattle.perimeter.specs.Sight.{lies}
 use borrow.Author.Needs.{needs}
@@ -14,13 +14,13 @@ by-ends-requires c κs = search needs
 stretch-requires : tie.Need-stretch-requires
 stretch-requires c κs = search needs
 
-lesser-requires : tie.Need-lesser-requires
-lesser-requires c κs = search needs
+lesser-code-requires : tie.Need-lesser-code-requires
+lesser-code-requires c κs = search needs
 
 returns : tie.Need-returns
 unfolding lies insideDistance
-returns c = least-code _ _ (c .before .before .by-ends .ensures) (c .before .stretch .ensures) (c .lesser .ensures)
+returns c = least-code _ _ (c .before .before .by-ends .ensures) (c .before .stretch .ensures) (c .lesser-code .ensures)
 
 pub lies-at-spec : {M : Type 1} → statement M
 lies-at-spec =
-    tie.close (tie.spec sub-by-ends by-ends-requires stretch-requires lesser-requires returns)
+    tie.close (tie.spec sub-by-ends by-ends-requires stretch-requires lesser-code-requires returns)
