@@ -28,6 +28,7 @@ join {keys} {len} {from} {mid} {to} {x} {y} {r} a b e = min-cases x y (Least key
 
     first : x ≤ y → min x y ≡ x → Least keys len from to r
     first l m = record { place = a .place; inside = a .inside; is = a .is ∙ sym (e ∙ m); least = λ j low high. least (omega arith) (omega arith) j low high (decLt j mid) }
+
     second : y ≤ x → min x y ≡ y → Least keys len from to r
     second l m = record { place = b .place; inside = b .inside; is = b .is ∙ sym (e ∙ m); least = λ j low high. least (omega arith) (omega arith) j low high (decLt j mid) }
 

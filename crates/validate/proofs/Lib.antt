@@ -1,4 +1,5 @@
 -- Lemmas for the proofs of this crate's functions.
 
 pub mod Made
+pub mod Over
 pub mod SetSizes

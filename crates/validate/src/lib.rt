@@ -17,11 +17,14 @@ pub use sets::greatest_set;
 pub fn check_network(nodes: u32, firsts: &[u32], seconds: &[u32], lengths: &[u32]) -> Check
     ensures { λ r. ⌜ r ≡ networkCheck (network nodes (now (firsts .entry)) (now (seconds .entry)) (now (lengths .entry))) ⌝ }
 {
-    let lists = network::check_lists(firsts, seconds, lengths);
-    if let Check::Refused(_, _) = lists {
-        return lists;
-    }
-    network::check_values(Check::Accepted, nodes, firsts, seconds, lengths)
+    network::check_over(
+        Check::Accepted,
+        Check::Accepted,
+        nodes,
+        firsts,
+        seconds,
+        lengths,
+    )
 }
 
 // A network and two lone nodes.
@@ -35,12 +38,8 @@ pub fn check_nodes(
 ) -> Check
     ensures { λ r. ⌜ r ≡ nodesOverNetworkCheck (network nodes (now (firsts .entry)) (now (seconds .entry)) (now (lengths .entry))) u v ⌝ }
 {
-    let lists = network::check_lists(firsts, seconds, lengths);
-    if let Check::Refused(_, _) = lists {
-        return lists;
-    }
     let lone = network::check_lone_nodes(nodes, u, v);
-    network::check_values(lone, nodes, firsts, seconds, lengths)
+    network::check_over(Check::Accepted, lone, nodes, firsts, seconds, lengths)
 }
 
 // A network and two lone locations, each an edge number and an offset: 13 and 14 besides.
@@ -86,17 +85,10 @@ pub fn check_set(
 ) -> Check
     ensures { λ r. ⌜ r ≡ setCheck (network nodes (now (firsts .entry)) (now (seconds .entry)) (now (lengths .entry))) (now (edges .entry)) (now (offsets .entry)) ⌝ }
 {
-    let lists = network::check_lists(firsts, seconds, lengths);
-    if let Check::Refused(_, _) = lists {
-        return lists;
-    }
-    let event_lists = number::same_length(edges, offsets);
-    if let Check::Refused(_, _) = event_lists {
-        return event_lists;
-    }
-    let values = network::check_values(Check::Accepted, nodes, firsts, seconds, lengths);
-    if let Check::Refused(_, _) = values {
-        return values;
+    let lists = number::same_length(edges, offsets);
+    let network = network::check_over(lists, Check::Accepted, nodes, firsts, seconds, lengths);
+    if let Check::Refused(_, _) = network {
+        return network;
     }
     events::check_events(lengths, edges, offsets)
 }
@@ -113,17 +105,10 @@ pub fn check_laid_out(
 ) -> Check
     ensures { λ r. ⌜ r ≡ laidOutCheck (network nodes (now (firsts .entry)) (now (seconds .entry)) (now (lengths .entry))) (now (edges .entry)) (now (offsets .entry)) edge ⌝ }
 {
-    let lists = network::check_lists(firsts, seconds, lengths);
-    if let Check::Refused(_, _) = lists {
-        return lists;
-    }
-    let event_lists = number::same_length(edges, offsets);
-    if let Check::Refused(_, _) = event_lists {
-        return event_lists;
-    }
-    let values = network::check_values(Check::Accepted, nodes, firsts, seconds, lengths);
-    if let Check::Refused(_, _) = values {
-        return values;
+    let lists = number::same_length(edges, offsets);
+    let network = network::check_over(lists, Check::Accepted, nodes, firsts, seconds, lengths);
+    if let Check::Refused(_, _) = network {
+        return network;
     }
     events::check_laid_out(lengths, edges, offsets, edge)
 }
@@ -140,17 +125,10 @@ pub fn check_sets(
 ) -> Check
     ensures { λ r. ⌜ r ≡ setsOverNetworkCheck (network nodes (now (firsts .entry)) (now (seconds .entry)) (now (lengths .entry))) (now (sets .entry)) (now (edges .entry)) (now (offsets .entry)) ⌝ }
 {
-    let lists = network::check_lists(firsts, seconds, lengths);
-    if let Check::Refused(_, _) = lists {
-        return lists;
-    }
-    let set_lists = sets::check_lists(sets, edges, offsets);
-    if let Check::Refused(_, _) = set_lists {
-        return set_lists;
-    }
-    let values = network::check_values(Check::Accepted, nodes, firsts, seconds, lengths);
-    if let Check::Refused(_, _) = values {
-        return values;
+    let lists = sets::check_lists(sets, edges, offsets);
+    let network = network::check_over(lists, Check::Accepted, nodes, firsts, seconds, lengths);
+    if let Check::Refused(_, _) = network {
+        return network;
     }
     sets::check_values(lengths, sets, edges, offsets)
 }

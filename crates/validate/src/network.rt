@@ -13,7 +13,7 @@ use model::MadeNetwork;
 use model::Network;
 
 // 2.
-pub(crate) fn check_lists(firsts: &[u32], seconds: &[u32], lengths: &[u32]) -> Check
+fn check_lists(firsts: &[u32], seconds: &[u32], lengths: &[u32]) -> Check
     ensures { λ r. ⌜ r ≡ networkLists (withEdges (now (firsts .entry)) (now (seconds .entry)) (now (lengths .entry))) ⌝ }
 {
     let firsts_differ = same_length(firsts, lengths);
@@ -109,13 +109,7 @@ pub(crate) fn check_lone_nodes(nodes: u32, u: u32, v: u32) -> Check
 }
 
 // 6 to 9; lone is what the check of lone nodes said.
-pub(crate) fn check_values(
-    lone: Check,
-    nodes: u32,
-    firsts: &[u32],
-    seconds: &[u32],
-    lengths: &[u32],
-) -> Check
+fn check_values(lone: Check, nodes: u32, firsts: &[u32], seconds: &[u32], lengths: &[u32]) -> Check
     requires { ⌜ (length (now firsts) ≡ length (now lengths)) × (length (now seconds) ≡ length (now lengths)) ⌝ }
     ensures { λ r. ⌜ r ≡ networkValues lone (network nodes (now (firsts .entry)) (now (seconds .entry)) (now (lengths .entry))) ⌝ }
 {
@@ -135,4 +129,25 @@ pub(crate) fn check_values(
         return different;
     }
     check_lengths(lengths)
+}
+
+// A network and what is lent with it: 2 for the network's lists, then what the check of the other lists said, then 6 to 9.
+pub(crate) fn check_over(
+    others: Check,
+    lone: Check,
+    nodes: u32,
+    firsts: &[u32],
+    seconds: &[u32],
+    lengths: &[u32],
+) -> Check
+    ensures { λ r. ⌜ r ≡ orElse (networkLists (network nodes (now (firsts .entry)) (now (seconds .entry)) (now (lengths .entry)))) (orElse others (networkValues lone (network nodes (now (firsts .entry)) (now (seconds .entry)) (now (lengths .entry))))) ⌝ }
+{
+    let lists = check_lists(firsts, seconds, lengths);
+    if let Check::Refused(_, _) = lists {
+        return lists;
+    }
+    if let Check::Refused(_, _) = others {
+        return others;
+    }
+    check_values(lone, nodes, firsts, seconds, lengths)
 }
