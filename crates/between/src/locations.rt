@@ -3,7 +3,7 @@ ghost use mathlib.Core.Path.{_≡_};
 ghost use Prim.Native.Nat.{suc, _*_, _≤_};
 ghost use lib.Dec.{eqb};
 ghost use lib.ListN.{length};
-ghost use Rattle.model.specs.Distance.{Distance, metres, plus, least, code};
+ghost use Rattle.model.specs.Distance.{Distance, metres, plus, code};
 ghost use Rattle.model.specs.Limits.{maxLength, maxNodes};
 ghost use Rattle.model.specs.Location.{end, edgeDistance, alongEdge};
 ghost use Rattle.model.specs.Network.{network};

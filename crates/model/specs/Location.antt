@@ -1,8 +1,7 @@
 -- Locations (01: places), walks between them and their distance.
 use mathlib.Core.Bool.{Bool, cond}
-use mathlib.Core.List.{List, [], _∷_, _++_, map, List·Memᴰ}
-use mathlib.Core.Path.{_≡_}
-use Prim.Native.Nat.{ℕ, zero, suc, pred, _+_, _-_, _≤_, _<_}
+use mathlib.Core.List.{List, [], _∷_, map, List·Memᴰ}
+use Prim.Native.Nat.{ℕ, _+_, _-_, _≤_, _<_}
 use lib.Dec.{eqb}
 use Rattle.model.specs.Network.{Network, IsNode, edges, first, second, size}
 use Rattle.model.specs.Distance.{Distance, metres, none, least, plus, leastOf, within, difference}

@@ -1,6 +1,6 @@
 -- The node distance, computed without a search: the least length over walks whose inner nodes are numbered at most k,
 -- by recursion on k; and what it means in terms of walks.
-use mathlib.Core.Bool.{Bool, true, false, cond, _&&_, _||_}
+use mathlib.Core.Bool.{cond, _&&_, _||_}
 use Prim.Native.Nat.{ℕ, zero, suc, _≤_}
 use lib.Dec.{eqb}
 use Rattle.model.specs.Network.{Network, edges, first, second, size}

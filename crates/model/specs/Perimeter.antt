@@ -1,6 +1,6 @@
 -- The perimeter count at a centre and a radius (document 000, section 3.1): how many locations lie at exactly that distance; and what it
 -- counts.
-use mathlib.Core.List.{List, [], _∷_, _++_, map, List·Memᴰ}
+use mathlib.Core.List.{List, [], _++_, map, List·Memᴰ}
 use mathlib.Core.Path.{_≡_}
 use Prim.Native.Nat.{ℕ, zero, suc, pred}
 use lib.ListN.{length}

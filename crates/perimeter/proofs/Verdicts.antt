@@ -1,6 +1,6 @@
 -- The verdicts: on the centre, and on the rows of a network that has been accepted.
 use mathlib.Core.List.{List}
-use mathlib.Core.Path.{_≡_, refl, sym, ap, _∙_}
+use mathlib.Core.Path.{_≡_, sym, ap, _∙_}
 use Prim.Native.Nat.{ℕ, suc, _-_, _≤_, _<_}
 use native.Mathlib.Numerals.{sub-one, one-add}
 use native.Mathlib.Omega.{arith}

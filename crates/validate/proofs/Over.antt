@@ -1,5 +1,5 @@
 -- A check of a network and of the lists lent with it, b beside it being what was said of those, and then a further check d.
-use mathlib.Core.Path.{_≡_, _∙_, refl, sym, ap}
+use mathlib.Core.Path.{_≡_, _∙_, refl, sym}
 use Prim.Native.Nat.{ℕ}
 use Rattle.model.proofs.Laws.Refusal.{both-accepted, stops-here, goes-on}
 use Rattle.model.specs.Refusal.{orElse}

@@ -1,5 +1,4 @@
 -- P1 to P10 of document 01 hold of the definitions, by computation.
-use mathlib.Core.List.{map}
 use mathlib.Core.Path.{refl}
 use Rattle.model.specs.Counting.{sumBelow, one-if, countBelow, countIf, numbersFrom}
 use Rattle.model.specs.Distance.{least, plus, leastOf, leastBelow, within, exactly, difference}

@@ -8,7 +8,7 @@ use lib.Dec.{eqb}
 use borrow.Author.Tests.{eq-eqb, eqb-true}
 use Rattle.model.specs.Network.{Network, edges, first, second, size, IsNode, EndsAreNodes}
 use Rattle.model.specs.Distance.{Distance, metres, none, least, plus, leastBelow}
-use Rattle.model.specs.Walk.{Joins, forward, backward, Walk, here, onward, IsLeast}
+use Rattle.model.specs.Walk.{Joins, forward, backward, Walk, here, onward}
 use Rattle.model.specs.NodeDistance.{crossing, direct, through, nodeDistance, boundedDistance, IsNodeDistance, IsBoundedDistance}
 use Rattle.model.proofs.Laws.Distance.{Le, zero-le, in-order, le-refl, le-trans, le-antisym, le-of-eq, least-left, least-right, least-greatest, plus-assoc, plus-monotone, le-plus-left, le-plus-right, plus-least, least-plus}
 use Rattle.model.proofs.Laws.Least.{below-each, Reached, reached-least, reached-plus, reached-below, is-least, least-reached, least-le, least-unique, least-map, least-bounded}

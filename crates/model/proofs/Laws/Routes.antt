@@ -1,17 +1,16 @@
 -- The four routes as one statement with the two sides as parameters, for whole and for bounded distances and for table entries.
 use mathlib.Core.Bool.{Bool, true, false, cond, _&&_, _||_, not}
-use mathlib.Core.List.{List, [], _∷_}
-use mathlib.Core.Path.{_≡_, _∙_, refl, sym, ap, ap₂}
-use Prim.Native.Nat.{ℕ, zero, suc, pred, _+_, _≤_, _<_}
+use mathlib.Core.Path.{_≡_, _∙_, refl, sym, ap}
+use Prim.Native.Nat.{ℕ, pred, _+_, _≤_}
 use native.Mathlib.Omega.{arith}
 use lib.Dec.{eqb, leb, eqb·suc-zero}
 use Rattle.model.proofs.Laws.Distance.{least-none}
 use Rattle.model.proofs.Laws.Location.{edge-distance}
 use Rattle.model.proofs.Laws.Within.{within-least, within-bounded, bounded-plus-left, bounded-plus-right}
-use Rattle.model.specs.Distance.{Distance, metres, none, least, plus, leastOf, within, bounded, code, difference}
+use Rattle.model.specs.Distance.{Distance, metres, none, plus, leastOf, within, bounded, code, difference}
 use Rattle.model.specs.Events.{Event, IsEvent, eventLocation}
-use Rattle.model.specs.Location.{Side, at-first, at-second, endNode, gap, reaches, edgeEnds, route, routes, alongEdge, edgeDistance, locationOf}
-use Rattle.model.specs.Network.{Network, EndsAreNodes, edges, first, second, size}
+use Rattle.model.specs.Location.{Side, at-first, at-second, endNode, gap, reaches, edgeEnds, route, routes, alongEdge, edgeDistance}
+use Rattle.model.specs.Network.{Network, EndsAreNodes, size}
 use Rattle.model.specs.NodeDistance.{nodeDistance, boundedDistance}
 use Rattle.model.specs.PairCount.{eventDistance}
 

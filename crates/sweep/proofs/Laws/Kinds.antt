@@ -9,7 +9,7 @@ use borrow.Author.Tests.{le-leb, lt-leb, lt-ltb, le-ltb}
 use borrow.Author.Fill.{fill-more}
 use lib.Dec.{leb, ltb}
 use lib.ListN.{length, getD, set, drop, replicate, length-append, length-replicate, drop-of-length-le}
-use Rattle.model.specs.Distance.{Distance, metres, none, code, plus, within, decode}
+use Rattle.model.specs.Distance.{metres, plus, within, decode}
 use Rattle.model.specs.Location.{gap, reaches}
 use Rattle.model.proofs.Laws.Counting.{count-cong}
 use Rattle.sweep.specs.Cursors.{position, below, upTo}

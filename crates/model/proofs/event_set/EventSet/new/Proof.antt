@@ -4,7 +4,6 @@ use Rattle.model.specs.Checks.{eventCountCheck}
 use Rattle.model.specs.Limits.{maxEvents}
 use Rattle.model.specs.Made.{eventSetOf, madeBy}
 use Rattle.model.specs.Refusal.{unless}
-use borrow.Author.Needs.{needs}
 use Rattle.model.proofs.event_set.EventSet.new.Statement.{statement}
 use Rattle.model.proofs.event_set.EventSet.new.Tie as tie
 use Rattle.model.proofs.event_set.EventSet.new.Reads as reads
