@@ -1,8 +1,8 @@
 -- Entries and refusals as answers.
-use mathlib.Core.Path.{_≡_, _∙_, sym}
+use mathlib.Core.Path.{_≡_, _∙_, ap}
 use Prim.Native.Nat.{ℕ, suc}
-use Rattle.model.proofs.Laws.Codes.{code-unique}
-use Rattle.model.specs.Distance.{Distance, metres, none, code}
+use Rattle.model.proofs.Laws.Codes.{decode-code}
+use Rattle.model.specs.Distance.{Distance, code, decode}
 use Rattle.model.specs.declared.check.Check.{Check}
 use Rattle.model.specs.declared.check.Check.the-variants.{Accepted, Refused}
 use Rattle.between.specs.Answers.{lengthAnswer, boundedAnswer}
@@ -11,32 +11,22 @@ use Rattle.between.specs.declared.answers.Length.the-variants as length-
 use Rattle.between.specs.declared.answers.BoundedLength.{BoundedLength}
 use Rattle.between.specs.declared.answers.BoundedLength.the-variants as bounded-answer
 
--- an entry of 0 is the code of none
-none-entry : {entry : ℕ} (d : Distance) → entry ≡ 0 → entry ≡ code d → d ≡ none
-unfolding code
-none-entry d z e = code-unique d none (sym e ∙ z)
-
--- any other entry is the code of one metre less
-metres-entry : {entry : ℕ} (n : ℕ) (d : Distance) → entry ≡ suc n → entry ≡ code d → d ≡ metres n
-unfolding code
-metres-entry n d p e = code-unique d (metres n) (sym e ∙ p)
-
 -- the two kinds of answers, from an entry
-pub no-walk-answer : {entry : ℕ} (d : Distance) → entry ≡ 0 → entry ≡ code d → length-answer.NoWalk ≡ lengthAnswer Accepted d
-unfolding lengthAnswer
-no-walk-answer d z e = rw (none-entry d z e)
+pub no-walk-answer : {entry : ℕ} → entry ≡ 0 → length-answer.NoWalk ≡ lengthAnswer Accepted (decode entry)
+unfolding lengthAnswer decode
+no-walk-answer e = rw e
 
-pub metres-answer : {entry : ℕ} (n : ℕ) (d : Distance) → entry ≡ suc n → entry ≡ code d → length-answer.Metres n ≡ lengthAnswer Accepted d
-unfolding lengthAnswer
-metres-answer n d p e = rw (metres-entry n d p e)
+pub metres-answer : {entry : ℕ} (n : ℕ) → entry ≡ suc n → length-answer.Metres n ≡ lengthAnswer Accepted (decode entry)
+unfolding lengthAnswer decode
+metres-answer n e = rw e
 
-pub beyond-answer : {entry : ℕ} (d : Distance) → entry ≡ 0 → entry ≡ code d → bounded-answer.Beyond ≡ boundedAnswer Accepted d
-unfolding boundedAnswer
-beyond-answer d z e = rw (none-entry d z e)
+pub beyond-answer : {entry : ℕ} → entry ≡ 0 → bounded-answer.Beyond ≡ boundedAnswer Accepted (decode entry)
+unfolding boundedAnswer decode
+beyond-answer e = rw e
 
-pub within-answer : {entry : ℕ} (n : ℕ) (d : Distance) → entry ≡ suc n → entry ≡ code d → bounded-answer.Metres n ≡ boundedAnswer Accepted d
-unfolding boundedAnswer
-within-answer n d p e = rw (metres-entry n d p e)
+pub within-answer : {entry : ℕ} (n : ℕ) → entry ≡ suc n → bounded-answer.Metres n ≡ boundedAnswer Accepted (decode entry)
+unfolding boundedAnswer decode
+within-answer n e = rw e
 
 -- a check that refuses is answered by its number and place
 pub length-refused : {check : Check} {number place : ℕ} (d : Distance) → check ≡ Refused number place → length-answer.Refused number place ≡ lengthAnswer check d
@@ -47,9 +37,9 @@ pub bounded-refused : {check : Check} {number place : ℕ} (d : Distance) → ch
 unfolding boundedAnswer
 bounded-refused d e = rw e
 
--- a check that accepts is answered by the distance
-pub length-accepted : {check : Check} {r : Length} (d : Distance) → check ≡ Accepted → r ≡ lengthAnswer Accepted d → r ≡ lengthAnswer check d
-length-accepted d accepted e = rw accepted e
+-- a check that accepts is answered by the distance that the entry is the code of
+pub length-accepted : {check : Check} {r : Length} {entry : ℕ} (d : Distance) → check ≡ Accepted → entry ≡ code d → r ≡ lengthAnswer Accepted (decode entry) → r ≡ lengthAnswer check d
+length-accepted d accepted e f = rw accepted (f ∙ ap (lengthAnswer Accepted) (ap decode e ∙ decode-code d))
 
-pub bounded-accepted : {check : Check} {r : BoundedLength} (d : Distance) → check ≡ Accepted → r ≡ boundedAnswer Accepted d → r ≡ boundedAnswer check d
-bounded-accepted d accepted e = rw accepted e
+pub bounded-accepted : {check : Check} {r : BoundedLength} {entry : ℕ} (d : Distance) → check ≡ Accepted → entry ≡ code d → r ≡ boundedAnswer Accepted (decode entry) → r ≡ boundedAnswer check d
+bounded-accepted d accepted e f = rw accepted (f ∙ ap (boundedAnswer Accepted) (ap decode e ∙ decode-code d))

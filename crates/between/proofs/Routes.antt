@@ -1,13 +1,14 @@
 -- Entries of routes: one with its gaps, and the least of all.
 use mathlib.Core.Path.{_≡_, _∙_, refl, ap, subst}
-use Prim.Native.Nat.{ℕ, pred, _+_, _-_, _≤_, _<_}
+use Prim.Native.Nat.{ℕ, zero, suc, pred, _+_, _-_, _≤_, _<_}
 use native.Mathlib.Omega.{arith}
 use lib.Dec.{eqb}
 use lib.ListN.{length}
 use Rattle.model.proofs.Laws.Checks.{IsNetwork, LocationsAccepted, network-accepted, network-accepts}
+use Rattle.model.proofs.Laws.Codes.{decode-code}
 use Rattle.model.proofs.Laws.Distance.{least-none}
 use Rattle.model.proofs.Laws.Location.{edge-distance}
-use Rattle.model.specs.Distance.{Distance, metres, none, least, plus, leastOf, code}
+use Rattle.model.specs.Distance.{Distance, metres, least, plus, leastOf, code, decode}
 use Rattle.model.specs.Events.{event, IsEvent}
 use Rattle.model.specs.Limits.{maxLength, maxNodes}
 use Rattle.model.specs.Location.{End, end, edgeEnds, route, routes, edgeDistance, locationOf, locationDistance, alongEdge}
@@ -15,15 +16,17 @@ use Rattle.model.specs.Network.{Network, IsNode, first, second, size}
 use Rattle.between.specs.Routes.{fromEnd, OnEdge}
 
 -- an entry with its gaps
-pub no-route : {entry : ℕ} (near far : ℕ) (d : Distance) → entry ≡ 0 → entry ≡ code d → 0 ≡ code (plus (plus (metres near) d) (metres far))
-unfolding code plus
-no-route near far (metres n) z e = absurd (omega arith)
-no-route near far none z e = refl
+pub no-route : (near entry far : ℕ) → entry ≡ 0 → 0 ≡ code (plus (plus (metres near) (decode entry)) (metres far))
+unfolding code decode plus
+no-route near entry far e = rw e
 
-pub a-route : {entry : ℕ} (near far : ℕ) (d : Distance) → (entry ≡ 0 → ⊥) → entry ≡ code d → near + entry + far ≡ code (plus (plus (metres near) d) (metres far))
-unfolding code plus
-a-route near far (metres n) s e = omega arith
-a-route near far none s e = absurd (s e)
+pub a-route : (near entry far : ℕ) → (entry ≡ 0 → ⊥) → near + entry + far ≡ code (plus (plus (metres near) (decode entry)) (metres far))
+unfolding code decode plus
+a-route near zero far s = absurd (s refl)
+a-route near (suc n) far s = omega arith
+
+pub route-code : {r entry : ℕ} (near far : ℕ) (d : Distance) → entry ≡ code d → r ≡ code (plus (plus (metres near) (decode entry)) (metres far)) → r ≡ code (plus (plus (metres near) d) (metres far))
+route-code near far d e f = f ∙ ap (λ (x : Distance). code (plus (plus (metres near) x) (metres far))) (ap decode e ∙ decode-code d)
 
 -- from an end there are two routes
 pub from-end-code : {r : ℕ} (net : Network) (a : End) (j y : ℕ) → r ≡ code (least (route net a (end (first net j) y)) (route net a (end (second net j) (size net j - y)))) → r ≡ code (fromEnd net a j y)

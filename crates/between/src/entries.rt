@@ -2,7 +2,7 @@
 ghost use mathlib.Core.Path.{_≡_};
 ghost use Prim.Native.Nat.{pred, _≤_};
 ghost use lib.ListN.{length, getD};
-ghost use Rattle.model.specs.Distance.{Distance, code};
+ghost use Rattle.model.specs.Distance.{decode};
 ghost use Rattle.model.specs.declared.check.Check.the-variants.{Accepted};
 ghost use Rattle.between.specs.Answers.{lengthAnswer, boundedAnswer};
 use crate::answers::BoundedLength;
@@ -21,7 +21,7 @@ pub(crate) fn entry_of(row: &[u32], v: u32) -> u32
 
 // An entry as an answer: 0 is no walk.
 pub(crate) fn length_of(entry: u32) -> Length
-    ensures { λ r. ⌜ ((d : Distance) → entry ≡ code d → r ≡ lengthAnswer Accepted d) ⌝ }
+    ensures { λ r. ⌜ r ≡ lengthAnswer Accepted (decode entry) ⌝ }
 {
     if entry == 0 {
         return Length::NoWalk;
@@ -31,7 +31,7 @@ pub(crate) fn length_of(entry: u32) -> Length
 
 // An entry of a bounded search as an answer: 0 is beyond.
 pub(crate) fn bounded_length_of(entry: u32) -> BoundedLength
-    ensures { λ r. ⌜ ((d : Distance) → entry ≡ code d → r ≡ boundedAnswer Accepted d) ⌝ }
+    ensures { λ r. ⌜ r ≡ boundedAnswer Accepted (decode entry) ⌝ }
 {
     if entry == 0 {
         return BoundedLength::Beyond;

@@ -3,7 +3,7 @@ ghost use mathlib.Core.Path.{_≡_};
 ghost use Prim.Native.Nat.{suc, _*_, _≤_};
 ghost use lib.Dec.{eqb};
 ghost use lib.ListN.{length};
-ghost use Rattle.model.specs.Distance.{Distance, metres, plus, code};
+ghost use Rattle.model.specs.Distance.{metres, plus, code, decode};
 ghost use Rattle.model.specs.Limits.{maxLength, maxNodes};
 ghost use Rattle.model.specs.Location.{end, edgeDistance, alongEdge};
 ghost use Rattle.model.specs.Network.{network};
@@ -22,7 +22,7 @@ use model::lesser_entry;
 // An entry with the gaps at both ends.
 fn with_gaps(near: u32, entry: u32, far: u32) -> u32
     requires { ⌜ (near ≤ maxLength) × (entry ≤ suc (maxLength * maxNodes)) × (far ≤ maxLength) ⌝ }
-    ensures { λ r. ⌜ ((d : Distance) → entry ≡ code d → r ≡ code (plus (plus (metres near) d) (metres far))) ⌝ }
+    ensures { λ r. ⌜ r ≡ code (plus (plus (metres near) (decode entry)) (metres far)) ⌝ }
 {
     if entry == 0 {
         return 0;

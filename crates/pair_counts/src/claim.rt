@@ -9,10 +9,10 @@ ghost use Rattle.sweep.specs.Answers.{CursorsAnswered};
 ghost use Rattle.prepare.specs.Prepared.{greatest};
 use crate::verdict::check_asked;
 use crate::verdict::check_room;
-use crate::verdict::lesser;
 use crate::verdict::lowest;
 use model::Check;
 use model::EventSet;
+use model::lesser;
 
 // An entry of a list as a place.
 fn place(list: &[u32], k: usize) -> usize
@@ -157,9 +157,9 @@ fn pair_counts_with(
     ensures { λ r. ⌜ PairCountsAnswered (network nodes (now (firsts .entry)) (now (seconds .entry)) (now (lengths .entry))) (now (sets .entry)) (now (edges .entry)) (now (offsets .entry)) (now (thresholds .entry)) set threshold edge1 edge2 (now («by_range» .entry)) (now («by_augmentation» .entry)) (now («by_sharing» .entry)) (now (positions .entry)) (now (moves .entry)) r (now («by_range» .exit)) (now («by_augmentation» .exit)) (now («by_sharing» .exit)) (now (positions .exit)) (now (moves .exit)) ⌝ }
 {
     let room = lesser(
-        by_range.len(),
-        lesser(by_augmentation.len(), by_sharing.len()),
-    );
+        by_range.len() as u64,
+        lesser(by_augmentation.len() as u64, by_sharing.len() as u64),
+    ) as usize;
     let counted = prepare::prepare(
         nodes,
         firsts,

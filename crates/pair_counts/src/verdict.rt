@@ -3,18 +3,11 @@ ghost use mathlib.Core.Bool.{_&&_};
 ghost use mathlib.Core.Path.{_≡_};
 ghost use lib.Dec.{eqb};
 ghost use lib.ListN.{length};
-ghost use Prim.Native.Nat.{min};
 ghost use Rattle.model.specs.Counting.{one-if};
 ghost use Rattle.model.specs.Network.{network};
 ghost use Rattle.pair_counts.specs.Claim.{lowest, onEdge, cursorRoom, askedCheck};
 use model::Check;
 use model::EventSet;
-
-pub(crate) fn lesser(a: usize, b: usize) -> usize
-    ensures { λ r. ⌜ r ≡ min a b ⌝ }
-{
-    if a < b { a } else { b }
-}
 
 // Of two checks the refusal with the lower number, then the lower place.
 pub(crate) fn lowest(a: Check, b: Check) -> Check

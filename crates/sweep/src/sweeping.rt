@@ -5,23 +5,13 @@ use crate::cursor::below;
 use crate::cursor::rest;
 use crate::cursor::route;
 use crate::cursor::up_to;
+use model::apart;
 ghost use mathlib.Core.Path.{_≡_};
 ghost use lib.ListN.{length, replicate};
-ghost use Rattle.model.specs.Distance.{difference};
 ghost use Rattle.sweep.specs.Moving.{sideOf};
 ghost use Rattle.sweep.specs.Sweeping.{Sweepable, Swept};
 ghost use Rattle.sweep.specs.Ends.{codeBetween};
 ghost use Rattle.sweep.specs.Six.{PartSweepable, PartSwept, RouteSweepable, RouteSwept, EdgesSweepable, EdgesSwept};
-
-// The difference of two numbers, without sign.
-fn difference(a: usize, b: usize) -> usize
-    ensures { λ r. ⌜ r ≡ difference a b ⌝ }
-{
-    if a < b {
-        return b - a;
-    }
-    a - b
-}
 
 // Sweeps one cursor over the events of the first edge. Each position, and the sum of the moves, is written as one more.
 fn sweep(cursor: Cursor, long: u32, xs: &[u32], ys: &[u32], positions: &mut [u32]) -> u32
@@ -33,7 +23,7 @@ fn sweep(cursor: Cursor, long: u32, xs: &[u32], ys: &[u32], positions: &mut [u32
     let mut i = 0;
     while i < xs.len() {
         let next = advance(cursor, ys, long, xs[i], position);
-        moves += difference(position, next);
+        moves += apart(position as u64, next as u64) as usize;
         position = next;
         positions[i] = position as u32 + 1;
         i += 1;

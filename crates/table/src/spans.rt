@@ -1,35 +1,27 @@
 // Least and greatest over the comparison sets.
 ghost use mathlib.Core.Path.{_≡_};
-ghost use Prim.Native.Nat.{min, max, _+_, _*_, _≤_};
+ghost use Prim.Native.Nat.{_+_, _*_, _≤_};
 ghost use lib.ListN.{length, getD};
 ghost use Rattle.model.specs.Envelope.{widen};
 ghost use Rattle.table.specs.Columns.{RowsThere, ColumnThere, columnFrom, columns, envelopeIn};
 ghost use Rattle.table.specs.Table.{leasts, greatests};
+use model::greater;
+use model::lesser;
 
 pub struct Span {
     pub lower: u32,
     pub upper: u32,
 }
 
-fn lesser(a: u32, b: u32) -> u32
-    ensures { λ r. ⌜ r ≡ min a b ⌝ }
-{
-    if b < a { b } else { a }
-}
-
-fn greater(a: u32, b: u32) -> u32
-    ensures { λ r. ⌜ r ≡ max a b ⌝ }
-{
-    if a < b { b } else { a }
-}
-
 // One more count taken in.
 fn widen(count: u32, span: Span) -> Span
     ensures { λ r. ⌜ envelopeIn r ≡ widen count (envelopeIn span) ⌝ }
 {
+    let lower = lesser(count as u64, span.lower as u64);
+    let upper = greater(count as u64, span.upper as u64);
     Span {
-        lower: lesser(count, span.lower),
-        upper: greater(count, span.upper),
+        lower: lower as u32,
+        upper: upper as u32,
     }
 }
 

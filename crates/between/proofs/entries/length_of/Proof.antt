@@ -7,13 +7,13 @@ use Rattle.between.proofs.entries.length_of.Statement.{statement}
 use Rattle.between.proofs.entries.length_of.Tie as tie
 
 returns : tie.Need-returns
-returns c = λ d e. no-walk-answer d (c .if1 .taken) e
+returns c = no-walk-answer (c .if1 .taken)
 
 sub-t3 : tie.Need-sub-t3
 sub-t3 c = search needs
 
 returns-2 : tie.Need-returns-2
-returns-2 c = λ d e. metres-answer (c .before .args .entry - 1) d (omega arith) e
+returns-2 c = metres-answer (c .before .args .entry - 1) (omega arith)
 
 pub length-of-spec : {M : Type 1} → statement M
 length-of-spec = tie.close (tie.spec returns sub-t3 returns-2)

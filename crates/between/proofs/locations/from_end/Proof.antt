@@ -4,7 +4,7 @@ use native.Mathlib.Omega.{arith}
 use Rattle.model.proofs.Laws.Codes.{least-code}
 use Rattle.model.specs.Location.{route}
 use Rattle.between.proofs.Asking.{found}
-use Rattle.between.proofs.Routes.{at-edge, from-end-code}
+use Rattle.between.proofs.Routes.{at-edge, from-end-code, route-code}
 use borrow.Author.Needs.{needs}
 use Rattle.between.proofs.locations.from_end.Statement.{statement}
 use Rattle.between.proofs.locations.from_end.Tie as tie
@@ -65,7 +65,10 @@ returns c =
     let e = at-edge (c .before .before .before .before .before .before .before .before .before .before .before .before .before .before .before .before .before .before .pre .1 .1) in
     let answered = c .before .before .before .before .before .before .before .before .before .before .before .before .distances-from .ensures in
     from-end-code _ _ _ _
-    (least-code _ _ (c .before .before .before .before .before .before .with-gaps .ensures _ (c .before .before .before .before .before .before .before .entry-of .ensures ∙ found (c .before .before .before .before .before .before .before .before .before .before .before .before .before .before .before .before .before .before .pre .0) answered (e .first-is) .whole (omega arith))) (c .before .with-gaps2 .ensures _ (c .before .before .before .entry-of2 .ensures ∙ found (c .before .before .before .before .before .before .before .before .before .before .before .before .before .before .before .before .before .before .pre .0) answered (e .second-is) .whole (omega arith))) (c .lesser-entry .ensures))
+    (least-code _ _
+    (route-code _ _ _ (c .before .before .before .before .before .before .before .entry-of .ensures ∙ found (c .before .before .before .before .before .before .before .before .before .before .before .before .before .before .before .before .before .before .pre .0) answered (e .first-is) .whole (omega arith)) (c .before .before .before .before .before .before .with-gaps .ensures))
+    (route-code _ _ _ (c .before .before .before .entry-of2 .ensures ∙ found (c .before .before .before .before .before .before .before .before .before .before .before .before .before .before .before .before .before .before .pre .0) answered (e .second-is) .whole (omega arith)) (c .before .with-gaps2 .ensures))
+    (c .lesser-entry .ensures))
 
 pub from-end-spec : {M : Type 1} → statement M
 from-end-spec =

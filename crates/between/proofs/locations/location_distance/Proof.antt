@@ -41,7 +41,7 @@ unfolding locationAnswer
 returns-2 c =
     let accepted = sym (c .before .before .before .before .check-locations .ensures) ∙ c .before .before .enum-told .given .1 in
     length-accepted _ accepted
-    (c .length-of .ensures _ (c .before .entry-between .ensures ∙ ap code (located (locations-accepted _ _ _ _ _ accepted))))
+    (c .before .entry-between .ensures ∙ ap code (located (locations-accepted _ _ _ _ _ accepted))) (c .length-of .ensures)
 
 pub location-distance-spec : {M : Type 1} → statement M
 location-distance-spec =

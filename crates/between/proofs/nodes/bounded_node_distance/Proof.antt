@@ -29,7 +29,7 @@ returns-2 : tie.Need-returns-2
 unfolding boundedNodeAnswer
 returns-2 c =
     bounded-accepted _ (sym (c .before .before .before .before .check-nodes .ensures) ∙ c .before .before .enum-told .given .1)
-    (c .bounded-length-of .ensures _ (c .before .entry-between .ensures .bounded))
+    (c .before .entry-between .ensures .bounded) (c .bounded-length-of .ensures)
 
 pub bounded-node-distance-spec : {M : Type 1} → statement M
 bounded-node-distance-spec =

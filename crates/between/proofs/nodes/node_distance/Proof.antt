@@ -30,7 +30,7 @@ returns-2 : tie.Need-returns-2
 unfolding nodeAnswer
 returns-2 c =
     length-accepted _ (sym (c .before .before .before .before .check-nodes .ensures) ∙ c .before .before .enum-told .given .1)
-    (c .length-of .ensures _ (c .before .entry-between .ensures .whole (omega arith)))
+    (c .before .entry-between .ensures .whole (omega arith)) (c .length-of .ensures)
 
 pub node-distance-spec : {M : Type 1} → statement M
 node-distance-spec =

@@ -22,12 +22,12 @@ module _ (c : tie.In-loop Inv-loop μ-loop) where
   can = can-move _ _ _ _ _ _ _ _ _ (c .before .before .before .before .before .before .pre) (c .before .loop .inv) (c .loop-test .taken)
 
 -- and after the cursor has moved
-module _ (c : tie.After-difference Inv-loop μ-loop) where
+module _ (c : tie.After-apart Inv-loop μ-loop) where
   stands : c .before .advance .result ≡ standing (c .before .before .before .before .before .before .before .before .before .args .cursor) (c .before .before .before .before .before .before .before .before .before .args .long) (c .before .before .before .before .before .before .before .before .before .args .ys .now) (getD (c .before .before .before .before .before .before .before .before .before .args .xs .now) (c .before .before .before .before .loop .i) 0)
   stands = c .before .advance .ensures ∙ moved-on-stands _ _ _ _ (can (c .before .before .before))
 
-  moved : (c .before .before .before .before .loop .moves + c .difference .result ≤ length (c .before .before .before .before .before .before .before .before .before .args .ys .now)) × (c .before .advance .result ≤ length (c .before .before .before .before .before .before .before .before .before .args .ys .now))
-  moved = moved-few _ _ _ _ _ _ _ _ _ _ (c .before .before .before .before .loop .inv) (can (c .before .before .before)) stands (c .difference .ensures)
+  moved : (c .before .before .before .before .loop .moves + c .apart .result ≤ length (c .before .before .before .before .before .before .before .before .before .args .ys .now)) × (c .before .advance .result ≤ length (c .before .before .before .before .before .before .before .before .before .args .ys .now))
+  moved = moved-few _ _ _ _ _ _ _ _ _ _ (c .before .before .before .before .loop .inv) (can (c .before .before .before)) stands (c .apart .ensures)
 
 rest-requires : tie.Need-rest-requires Inv-loop μ-loop
 rest-requires c κs = search needs
@@ -44,8 +44,8 @@ shared-slice-read-advance c = search needs
 advance-requires : tie.Need-advance-requires Inv-loop μ-loop
 advance-requires c κs = search needs
 
-difference-requires : tie.Need-difference-requires Inv-loop μ-loop
-difference-requires c κs = search needs
+apart-requires : tie.Need-apart-requires Inv-loop μ-loop
+apart-requires c κs = search needs
 
 add-moves : tie.Need-add-moves Inv-loop μ-loop
 add-moves c = omega (arith, moved (c), c .before .before .before .before .before .before .before .before .before .pre .few)
@@ -69,7 +69,7 @@ loop-less : tie.Need-loop-less Inv-loop μ-loop
 loop-less c = omega arith
 
 loop-again : tie.Need-loop-again Inv-loop μ-loop
-loop-again c = turn _ _ _ _ _ _ _ _ _ _ (c .before .before .before .before .loop .inv) (can (c .before .before .before)) (c .before .before .before .loop-test .taken) (stands c) (c .difference .ensures)
+loop-again c = turn _ _ _ _ _ _ _ _ _ _ (c .before .before .before .before .loop .inv) (can (c .before .before .before)) (c .before .before .before .loop-test .taken) (stands c) (c .apart .ensures)
 
 cast-result : tie.Need-cast-result Inv-loop μ-loop
 cast-result c = omega (arith, swept-few _ _ _ _ _ _ _ _ (c .before .loop .inv), c .before .before .before .before .before .before .pre .few)
@@ -94,7 +94,7 @@ sweep-spec =
     mul-advance
     shared-slice-read-advance
     advance-requires
-    difference-requires
+    apart-requires
     add-moves
     cast-positions
     add-positions
