@@ -170,8 +170,8 @@ fn is_whole(g: EdgePair, threshold: u32) -> bool
     routes <= 2 * threshold as u64 + 1
 }
 
-// For each event of a run on the first edge, what is looked up of a run on the second, once for events at one offset: how many it
-// reaches, where the stored numbers are right. The whole run's number is read beforehand, once for all thresholds.
+// The sum, over the events of a run on the first edge, of the numbers looked up in a run on the second, once for events at one offset.
+// Where the stored numbers are right, this is the number of pairs in reach. The last stored number, all, is read once by the caller.
 pub(crate) fn count_run(
     g: EdgePair,
     threshold: u32,

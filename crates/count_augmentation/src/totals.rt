@@ -57,7 +57,7 @@ fn add_counts(
     }
 }
 
-// The same for two runs of a set, b no later than a.
+// Adds, at each threshold, the pairs of two runs of a set, b no later than a, whose stored numbers are right.
 fn add_runs(
     nodes: u32,
     firsts: &[u32],

@@ -1,5 +1,4 @@
--- A text that says reports within the limits over a network, and is no longer than a text may be, is accepted, and the reports are read
--- from it.
+-- A text of reports within the limits over a network, no longer than a text may be, is accepted, and the reports are read from it.
 use mathlib.Core.List.{List, map}
 use mathlib.Core.Path.{_≡_}
 use Prim.Native.Nat.{ℕ, _≤_}
@@ -11,15 +10,15 @@ use Rattle.model.specs.Network.{Network}
 use Rattle.model.specs.declared.check.Check.the-variants.{Accepted}
 use Rattle.text.specs.EventText.{Row}
 use Rattle.text.specs.Reading.{maxBytes}
-use Rattle.text.specs.Texts.{SaysEvents}
+use Rattle.text.specs.Texts.{IsEventText}
 use Rattle.text.proofs.Laws.EventsRead.{reports-read}
 use Rattle.reading.proofs.Laws.Answers.{read-accepted, list-is, short-enough, rooms-accept}
 use Rattle.event_reader.specs.Answers.{textRows, eventFileCheck, eventTextCheck}
 
-module _ (net : Network) {all : List Row} {bytes : List ℕ} (says : SaysEvents all bytes) (good : setsOverNetworkCheck net (map (λ r. r .set) all) (map (λ r. r .edge) all) (map (λ r. r .offset) all) ≡ Accepted) where
+module _ (net : Network) {all : List Row} {bytes : List ℕ} (is-text : IsEventText all bytes) (good : setsOverNetworkCheck net (map (λ r. r .set) all) (map (λ r. r .edge) all) (map (λ r. r .offset) all) ≡ Accepted) where
   pub events-are : textRows net bytes ≡ all
   unfolding textRows
-  events-are = list-is (reports-read net says good)
+  events-are = list-is (reports-read net is-text good)
 
   -- the network that the reports pass their check over passes its own
   pub over-network : networkCheck net ≡ Accepted
@@ -38,7 +37,7 @@ module _ (net : Network) {all : List Row} {bytes : List ℕ} (says : SaysEvents 
   unfolding eventFileCheck
   event-file-accepts short =
       both-accept (short-enough bytes short)
-      (both-accept over-network (both-accept (read-accepted (reports-read net says good)) (rw events-are equal-sets)))
+      (both-accept over-network (both-accept (read-accepted (reports-read net is-text good)) (rw events-are equal-sets)))
 
   -- the check that the reader promises, with room in the answer lists
   pub event-text-accepts : length bytes ≤ maxBytes → (sets edges offsets : List ℕ) → length all ≤ length sets → length all ≤ length edges → length all ≤ length offsets → eventTextCheck net bytes sets edges offsets ≡ Accepted

@@ -10,8 +10,7 @@ pub record Held (network reports thresholds : List ℕ) (r : ℕ) (out : List �
   pub within : r ≤ length out
   pub bytes : take r out ≡ reportBytes network reports thresholds
 
--- the same, each text being the front of its list: as many bytes as were read, of which no contract of a system call says more than that
--- they fit
+-- the same over the first bytes of three lists, as many as were read: the contracts of the system calls promise only that these fit
 pub record HeldOfFronts (network reports thresholds : List ℕ) (r : ℕ) (out : List ℕ) : Type 0 where
   pub network-bytes : ℕ
   pub reports-bytes : ℕ

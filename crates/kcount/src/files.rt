@@ -4,8 +4,8 @@ ghost use lib.ListN.{length};
 use libc::EINTR;
 use libc::STDOUT_FILENO;
 
-// How many calls are made for one file, or for the output, at most: a million more than either has bytes, so that as many may be
-// interrupted, and the program ends whatever the system answers.
+// The most calls that are made to open one file, to read it, or to write the output: over a million more than either has bytes, so that
+// many may be interrupted, and the program ends whatever the system answers.
 const CALLS: usize = 1100000;
 
 // Opens the file for reading, and answers a descriptor, or a number below 0.
@@ -24,7 +24,7 @@ fn open(path: &[u8]) -> i32 {
     -1
 }
 
-// Reads until the list is full or the file ends, and answers how many bytes were read: none if a call fails.
+// Reads until the list is full or the file ends, and answers how many bytes were read: 0 if a call fails or the calls run out.
 fn read_all(fd: i32, text: &mut [u8]) -> usize
     ensures { λ r. ⌜ r ≤ length (now (text .exit)) ⌝ }
 {

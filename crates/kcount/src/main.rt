@@ -10,7 +10,7 @@ use printing::Printed;
 // One byte more than a text may have, so that a longer one is refused and not cut off.
 const TEXT: usize = reading::MAX_BYTES + 1;
 
-// The bytes of the report, in front of the list; answers how many they are.
+// Writes the bytes of the report at the front of the list, and answers how many they are.
 fn fill(network: &[u8], reports: &[u8], thresholds: &[u8], out: &mut [u8]) -> usize
     requires { ⌜ reportRoom ≤ length (now out) ⌝ }
     ensures { λ r. ⌜ Held (now (network .entry)) (now (reports .entry)) (now (thresholds .entry)) r (now (out .exit)) ⌝ }
@@ -22,7 +22,8 @@ fn fill(network: &[u8], reports: &[u8], thresholds: &[u8], out: &mut [u8]) -> us
     }
 }
 
-// Reads the three files, each into its list, and fills the last list with the report over what was read.
+// Reads the three files, each into its list, and fills the last list with the report over what was read. That this is what the files
+// hold is not promised: no contract of a system call says what is read.
 fn run(network: &mut [u8], reports: &mut [u8], thresholds: &mut [u8], out: &mut [u8]) -> usize
     requires { ⌜ reportRoom ≤ length (now out) ⌝ }
     ensures { λ r. ⌜ HeldOfFronts (now (network .exit)) (now (reports .exit)) (now (thresholds .exit)) r (now (out .exit)) ⌝ }

@@ -25,16 +25,17 @@ unfoldable pub countIf : {A : Type 0} → (A → Bool) → List A → ℕ
 countIf test [] = 0
 countIf test (x ∷ xs) = one-if (test x) + countIf test xs
 
--- of n places the first p, the last q, and those from below on up to before upto, which is no less: what overlaps counts once
+-- how many of n positions are among the first p, among the last q, or from `below` up to before `upto` (which is no less), each counted
+-- once
 abbrev pub covered : ℕ → ℕ → ℕ → ℕ → ℕ → ℕ
 covered n p q below upto = n - (min below (n - q) - p) - ((n - q) - max upto p)
 
--- how many entries in front of a list equal a number
+-- how many entries at the front of a list equal a number
 unfoldable pub equalsInFront : ℕ → List ℕ → ℕ
 equalsInFront n [] = 0
 equalsInFront n (m ∷ ms) = cond (eqb m n) (suc (equalsInFront n ms)) 0
 
--- the place behind those that, from place k on, equal the entry there
+-- the position after the run of equal entries that begins at position k
 unfoldable pub equalsEnd : List ℕ → ℕ → ℕ
 equalsEnd ns k = k + equalsInFront (getD ns k 0) (drop k ns)
 

@@ -46,7 +46,7 @@ pub data LocationWalk (net : Network) : Location → Location → ℕ → Type 0
   by-ends : {p q : Location} {a b : End} {n : ℕ} → List·Memᴰ a (ends net p) → List·Memᴰ b (ends net q) → Walk net (a .at) (b .at) n → LocationWalk net p q (a .gap + n + b .gap)
   along : {i x y : ℕ} → LocationWalk net (inside i x) (inside i y) (difference x y)
 
--- the shortest way from one end to another
+-- the shortest route between two locations by these ends: a gap, the node distance and a gap
 unfoldable pub route : Network → End → End → Distance
 route net a b = plus (plus (metres (a .gap)) (nodeDistance net (a .at) (b .at))) (metres (b .gap))
 
@@ -75,7 +75,8 @@ abbrev pub IsLocationDistance : Network → Location → Location → Distance �
 IsLocationDistance net p q d = IsLeast (LocationWalk net p q) d
 
 -- the same by both gaps of each location to the ends of its edge, on a node too: what the counting methods use.
--- Law (proofs/Laws/Location, `edge-distance`): it is the distance of the locations at the two offsets.
+-- Law (proofs/Laws/Location, `edge-distance`): where every edge ends at nodes, it is the distance of the
+-- locations at the two offsets.
 unfoldable pub edgeDistance : Network → ℕ → ℕ → ℕ → ℕ → Distance
 edgeDistance net i x j y =
     least (routes net (edgeEnds net i x) (edgeEnds net j y)) (alongEdge (eqb i j) x y)

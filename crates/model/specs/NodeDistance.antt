@@ -36,6 +36,7 @@ boundedDistance net bound u v = bounded bound (nodeDistance net u v)
 abbrev pub IsNodeDistance : Network → ℕ → ℕ → Distance → Type 0
 IsNodeDistance net u v d = IsLeast (Walk net u v) d
 
--- the same over the walks no longer than the bound. Law (`bounded-distance`): `boundedDistance` is such.
+-- the same over the walks no longer than the bound. Law (`bounded-distance`): where every edge ends at nodes,
+-- `boundedDistance` is such.
 abbrev pub IsBoundedDistance : Network → ℕ → ℕ → ℕ → Distance → Type 0
 IsBoundedDistance net bound u v d = IsLeast (λ n. Walk net u v n × (n ≤ bound)) d

@@ -43,7 +43,7 @@ pub record Joined (net : Network) (es : List Event) (t : ℕ) (p : Pair) : Type 
 
 -- count is the number of ordered pairs of different events that some walk no longer than the threshold joins:
 -- a list with no repeats that holds exactly those pairs has that length. It does not speak of the distance.
--- Law (proofs/Laws/PairCount, `counts-joined`): `pairCount` is such.
+-- Law (proofs/Laws/PairCount, `counts-joined`): where every edge ends at nodes, `pairCount` is such.
 pub record CountsJoined (net : Network) (es : List Event) (t : ℕ) (count : ℕ) : Type 0 where
   pub pairs : List Pair
   pub no-repeats : NoRepeats pairs

@@ -10,7 +10,7 @@ unfoldable pub orElse : Check → Check → Check
 orElse Accepted next = next
 orElse (Refused number place) next = Refused number place
 
--- a test of something that has no place of its own, or a known one
+-- accepted where the test holds, otherwise refused with this number and place
 unfoldable pub unless : Bool → ℕ → ℕ → Check
 unless good number place = cond good Accepted (Refused number place)
 

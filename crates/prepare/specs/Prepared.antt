@@ -49,7 +49,7 @@ pub record Runs (sets edges bounds setRuns : List ℕ) (n : ℕ) : Type 0 where
 unfoldable pub entry : Network → List ℕ → ℕ → ℕ → ℕ
 entry net table u v = getD table (pred u * net .nodes + pred v) 0
 
--- everything together, for n events
+-- everything together
 pub record Prepared (net : Network) (sets es xs ts edges offsets bounds setRuns table : List ℕ) : Type 0 where
   pub edges-are : take (length es) edges ≡ map (λ e. e .edge) (grouped sets (events es xs))
   pub offsets-are : take (length es) offsets ≡ map (λ e. e .offset) (grouped sets (events es xs))

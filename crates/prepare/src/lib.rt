@@ -35,11 +35,11 @@ pub const TABLE: usize = Network::MAX_NODES as usize * Network::MAX_NODES as usi
 
 pub type Table = [u32; TABLE];
 
-// Checks everything that a counting method is lent. On acceptance the laid-out lists hold the sets one after the other, each laid
-// out; bounds the places at which runs of events on one edge begin; set_runs the number of the run with which each set begins;
-// and table the leg-end distances; on refusal these five are left as they were. On acceptance they keep their surplus entries: what
-// stands behind the events, behind the ends of the last run and of the last set, and behind the square of nodes, and the rows of nodes
-// at which no event's edge ends.
+// Checks everything that a counting method is lent; `room` is the length of its answer list. On acceptance the laid-out lists hold the
+// sets one after the other, each laid out; `bounds` holds the positions at which runs of events on one edge begin, `set_runs` the number
+// of the run with which each set begins, and `table` the leg-end distances. All five keep their surplus entries: those behind the
+// events, behind the ends of the last run and of the last set and behind the square of nodes, and the rows of nodes at which no event's
+// edge ends. On refusal all five are left as they were.
 pub fn prepare(
     nodes: u32,
     firsts: &[u32],

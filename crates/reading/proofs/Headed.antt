@@ -5,13 +5,14 @@ use mathlib.Core.Path.{_≡_, refl, sym, ap, _∙_}
 use Prim.Native.Nat.{ℕ, suc, _≤_}
 use native.Mathlib.Omega.{arith}
 use lib.ListN.{length, take, drop}
+use Rattle.model.specs.Refusal.{unless}
 use Rattle.text.specs.Fields.{sameBytes}
 use Rattle.text.specs.Lines.{csvLines}
 use Rattle.text.specs.NextLine.{csvLine}
 use Rattle.text.specs.declared.lines.Line.{Line}
 use Rattle.text.proofs.Laws.Lines.{csv-next}
 use Rattle.text.specs.Reading.{Step, taken, refusedAt, readLines, require, next, noHeader}
-use Rattle.reading.specs.Header.{isHeaded, headerOf}
+use Rattle.reading.specs.Header.{isHeaded, headerCheck, headerAnswer, headerOf}
 use Rattle.reading.specs.declared.header.Header.{Header}
 use Rattle.reading.specs.declared.header.Header.the-variants.{RowsFrom, Missing}
 use Rattle.reading.proofs.Progress.{rest, rest-is}
@@ -35,12 +36,13 @@ pub record RowsAt (header bytes : List ℕ) (n : ℕ) : Type 0 where
 
 -- the answer by cases
 by-header : (header bytes : List ℕ) {headed : Bool} → isHeaded header (csvLines bytes) ≡ headed → headerOf header bytes ≡ cond headed (RowsFrom (csvLine bytes .next)) Missing
-unfolding headerOf
-by-header header bytes e = rw e
+unfolding headerOf headerAnswer headerCheck unless
+by-header header bytes {headed = true} e = rw e
+by-header header bytes {headed = false} e = rw e
 
 -- a text with no byte has no header
 pub no-text : (header bytes : List ℕ) → length bytes ≡ 0 → Missing ≡ headerOf header bytes
-unfolding csvLines isHeaded headerOf
+unfolding csvLines isHeaded headerOf headerAnswer headerCheck unless
 no-text header [] e = refl
 no-text header (b ∷ bytes) e = absurd (omega arith)
 

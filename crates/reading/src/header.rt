@@ -8,7 +8,7 @@ pub enum Header {
     Missing,
 }
 
-// 4: the first line is the header.
+// Whether the first line is the header (4 where it is not), and where the rows begin.
 pub fn read_header(header: &[u8], text: &[u8]) -> Header
     ensures { λ r. ⌜ r ≡ headerOf (now (header .entry)) (now (text .entry)) ⌝ }
 {

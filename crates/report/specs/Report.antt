@@ -50,15 +50,16 @@ bytesOverRows net all thresholds =
     lineOr (thresholdFileCheck thresholds) thresholdsName
     (countsTable net (map (λ r. r .set) all) (events (map (λ r. r .edge) all) (map (λ r. r .offset) all)) (textThresholds thresholds))
 
--- over a network that was accepted, which has no fault that the check of the reports could meet: the reports, and so on
+-- over a network that was accepted: the reports, then the thresholds. The check of the reports looks at the network again, and always
+-- accepts it.
 unfoldable pub bytesOverNetwork : Network → List ℕ → List ℕ → List ℕ
 bytesOverNetwork net reports thresholds = lineOr (eventFileCheck net reports) reportsName (bytesOverRows net (textRows net reports) thresholds)
 
 unfoldable pub reportBytes : List ℕ → List ℕ → List ℕ → List ℕ
 reportBytes network reports thresholds = lineOr (networkFileCheck network) networkName (bytesOverNetwork (textNetwork network) reports thresholds)
 
--- room that always suffices: the line of names, and for each threshold that there may be a row of at most four numbers of 20 digits,
--- three commas and a line end
+-- room that always suffices: the header, and for each threshold that there may be a row of four numbers of at most 20 digits, three
+-- commas and a line end
 abbrev pub reportRoom : ℕ
 reportRoom = 35 + maxThresholds * 85
 

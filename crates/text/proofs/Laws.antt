@@ -1,4 +1,4 @@
--- Laws of numbers, lines and fields, and of the texts that say given lists: these are read back.
+-- Laws of numbers, lines and fields, and of the texts of given lists: these are read back.
 pub mod Bounds
 pub mod Digits
 pub mod DigitsRead

@@ -1,5 +1,5 @@
--- What the three texts mean, byte by byte: lines, numbers and fields, then each text as a fold over its lines; last the texts that say
--- given lists.
+-- What the three texts mean, byte by byte: lines, numbers and fields, then each text as a fold over its lines; last the texts of given
+-- lists.
 pub mod Lines
 pub mod Places
 pub mod NextLine

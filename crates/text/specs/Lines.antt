@@ -14,7 +14,7 @@ carriageReturn = 13
 abbrev pub lineEnd : List ℕ
 lineEnd = carriageReturn ∷ lineFeed ∷ []
 
--- a byte in front of the first line, which it begins where there is none
+-- the lines with a byte added at the front of the first one; a line of its own where there is none
 unfoldable pub inFront : ℕ → List (List ℕ) → List (List ℕ)
 inFront b [] = (b ∷ []) ∷ []
 inFront b (line ∷ more) = (b ∷ line) ∷ more

@@ -7,7 +7,6 @@ use lib.ListN.{length, drop}
 use Rattle.model.specs.Limits.{maxNodes, maxEdges, maxLength}
 use Rattle.model.specs.Network.{Network, network}
 use Rattle.model.specs.Refusal.{isBetween, badSizes, badNode, selfJoined, badLength}
-use Rattle.text.specs.Lines.{feedLines}
 use Rattle.text.specs.Parallel.{beside}
 use Rattle.text.specs.Fields.{space, fields, sameBytes, beginsWith, numbersOf}
 use Rattle.text.specs.declared.fields.Numbers.{Numbers}
@@ -54,7 +53,7 @@ pub data NetworkState : Type 0 where
   before-problem : NetworkState
   reading : ℕ → ℕ → List ArcRead → NetworkState
 
--- the last arc of a list turned round is this one; of an empty list nothing is asked
+-- this arc is the last one of the list turned round; of an empty list nothing is asked
 unfoldable pub turnsLast : List ArcRead → ArcRead → Bool
 turnsLast [] b = true
 turnsLast (a ∷ []) b = eqb (a .from) (b .to) && (eqb (a .to) (b .from) && eqb (a .weight) (b .weight))
@@ -69,7 +68,7 @@ takeArc nodes arcs before b =
     (require (eqb (length before % 2) 0 || turnsLast before b) notTurned
     (require (ltb (length before) arcs) wrongArcs (taken (reading nodes arcs (before ++ (b ∷ []))))))))
 
--- 6: N is within the limit of nodes, and M is even and from 2 to twice the limit of edges
+-- 6: N is not within the limit of nodes, or M is odd or not from 2 to twice the limit of edges
 unfoldable pub takeProblem : ℕ → ℕ → Step NetworkState
 takeProblem nodes arcs =
     require (isBetween 1 maxNodes nodes && (eqb (arcs % 2) 0 && isBetween 2 (2 * maxEdges) arcs)) badSizes
@@ -104,7 +103,7 @@ everyOther (a ∷ b ∷ more) = a ∷ everyOther more
 unfoldable pub networkOfArcs : ℕ → List ArcRead → Network
 networkOfArcs nodes arcs = network nodes (map (λ a. a .from) (everyOther arcs)) (map (λ a. a .to) (everyOther arcs)) (map (λ a. a .weight) (everyOther arcs))
 
--- the other way round: every arc, and behind it the same turned round
+-- the reverse: every arc, followed by the same turned round
 unfoldable pub bothWays : List ArcRead → List ArcRead
 bothWays [] = []
 bothWays (a ∷ more) = a ∷ turned a ∷ bothWays more

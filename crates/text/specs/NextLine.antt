@@ -9,7 +9,7 @@ use Rattle.text.specs.declared.lines.Line.{Line}
 abbrev pub line : ℕ → ℕ → Line
 line end next = record { end = end; next = next }
 
--- a line that ends at a byte, in front of a line end of so many bytes, which the last line may lack
+-- the first line, from the index of its end and the width of a line end, which the last line may lack
 unfoldable pub lineTo : ℕ → ℕ → List ℕ → Line
 lineTo end width rest = line end (min (end + width) (length rest))
 

@@ -16,7 +16,7 @@ unfoldable pub allDigits : List ℕ → Bool
 allDigits [] = true
 allDigits (b ∷ bs) = isDigit b && allDigits bs
 
--- what digits stand for, behind a number that was read before them
+-- the value of these digits, which continue a number that was read before them
 unfoldable pub decimal : ℕ → List ℕ → ℕ
 decimal before [] = before
 decimal before (b ∷ bs) = decimal (before * 10 + (b - 48)) bs

@@ -1,4 +1,4 @@
--- Where a byte, or two bytes one after the other, first stand in a list of bytes; its length where they do not.
+-- The index at which a byte, or two bytes one after the other, first occur in a list of bytes; its length where they do not.
 use mathlib.Core.Bool.{cond, _&&_}
 use mathlib.Core.List.{List, [], _∷_}
 use Prim.Native.Nat.{ℕ, suc}

@@ -1,18 +1,17 @@
--- The texts that say given lists, byte by byte (01, Texts): a number is its decimal digits, and every line has its end, which the last one
--- may lack.
+-- The texts of given lists, byte by byte (01, Texts): a number is its decimal digits, and every line has its end, which the last one may
+-- lack.
 use mathlib.Core.Bool.{Bool, true, cond, _&&_, not}
 use mathlib.Core.List.{List, [], _∷_, _++_, map}
 use mathlib.Core.Path.{_≡_}
 use Prim.Native.Nat.{ℕ, _*_}
 use lib.Dec.{eqb}
 use Rattle.model.specs.Network.{Network, edges}
+use Rattle.text.specs.Digits.{digits}
 use Rattle.text.specs.EventText.{Row, eventHeader}
 use Rattle.text.specs.Fields.{comma, space}
-use Rattle.text.specs.Lines.{lineFeed}
+use Rattle.text.specs.Lines.{lineFeed, lineEnd}
 use Rattle.text.specs.NetworkText.{ArcRead, arcsOf}
 use Rattle.text.specs.ThresholdText.{thresholdHeader}
-use Rattle.text.specs.Digits.{digits}
-use Rattle.text.specs.Lines.{lineEnd}
 
 -- fields with a separator between them
 unfoldable pub parted : ℕ → List (List ℕ) → List ℕ
@@ -58,7 +57,7 @@ networkArcs net = arcsOf (net .firsts) (net .seconds) (net .lengths)
 unfoldable pub networkTextLines : Network → List (List ℕ)
 networkTextLines net = problemLine (net .nodes) (2 * edges net) ∷ map arcLine (networkArcs net)
 
--- a byte is none of a line's
+-- the line does not contain the byte
 unfoldable pub lacks : ℕ → List ℕ → Bool
 lacks x [] = true
 lacks x (b ∷ bs) = not (eqb b x) && lacks x bs
@@ -74,19 +73,19 @@ pub data WithRemarks : List (List ℕ) → List (List ℕ) → Type 0 where
   kept : {line : List ℕ} {lines all : List (List ℕ)} → WithRemarks lines all → WithRemarks (line ∷ lines) (line ∷ all)
   put-in : {remark : List ℕ} {lines all : List (List ℕ)} → IsRemark remark → WithRemarks lines all → WithRemarks lines (remark ∷ all)
 
--- The texts that say given lists, in every layout that 01 permits. A network's: its lines with remarks anywhere among them, each line
--- ended by a line feed, the last one ended or not.
-pub record SaysNetwork (net : Network) (bytes : List ℕ) : Type 0 where
+-- The texts of given lists, in every layout that 01 permits. Of a network: its lines with remarks anywhere among them, each line ended
+-- by a line feed, the last one ended or not.
+pub record IsNetworkText (net : Network) (bytes : List ℕ) : Type 0 where
   pub lines : List (List ℕ)
   pub among : WithRemarks (networkTextLines net) lines
   pub closed : Bool
   pub is : bytes ≡ joined (lineFeed ∷ []) closed lines
 
 -- of reports and of thresholds: the last line ended or not
-pub record SaysEvents (rows : List Row) (bytes : List ℕ) : Type 0 where
+pub record IsEventText (rows : List Row) (bytes : List ℕ) : Type 0 where
   pub closed : Bool
   pub is : bytes ≡ eventText closed rows
 
-pub record SaysThresholds (ts bytes : List ℕ) : Type 0 where
+pub record IsThresholdText (ts bytes : List ℕ) : Type 0 where
   pub closed : Bool
   pub is : bytes ≡ thresholdText closed ts

@@ -1,4 +1,5 @@
--- A text that says thresholds within the limits, and is no longer than a text may be, is accepted, and the thresholds are read from it.
+-- A text of thresholds within the limits, each no greater than a number in a text may be, is accepted if it is no longer than a text may
+-- be, and the thresholds are read from it.
 use mathlib.Core.List.{List}
 use mathlib.Core.Path.{_≡_}
 use Prim.Native.Nat.{ℕ, _≤_, _<_}
@@ -9,19 +10,19 @@ use Rattle.model.specs.Checks.{thresholdsCheck}
 use Rattle.model.specs.declared.check.Check.the-variants.{Accepted}
 use Rattle.text.specs.Numbers.{maxNumber}
 use Rattle.text.specs.Reading.{maxBytes}
-use Rattle.text.specs.Texts.{SaysThresholds}
+use Rattle.text.specs.Texts.{IsThresholdText}
 use Rattle.text.proofs.Laws.ThresholdsRead.{thresholds-read}
 use Rattle.reading.proofs.Laws.Answers.{read-accepted, list-is, short-enough}
 use Rattle.threshold_reader.specs.Answers.{textThresholds, thresholdFileCheck, thresholdTextCheck}
 
-module _ {ts bytes : List ℕ} (says : SaysThresholds ts bytes) (good : thresholdsCheck ts ≡ Accepted) (small : (k : ℕ) → k < length ts → getD ts k 0 ≤ maxNumber) where
+module _ {ts bytes : List ℕ} (is-text : IsThresholdText ts bytes) (good : thresholdsCheck ts ≡ Accepted) (small : (k : ℕ) → k < length ts → getD ts k 0 ≤ maxNumber) where
   pub thresholds-are : textThresholds bytes ≡ ts
   unfolding textThresholds
-  thresholds-are = list-is (thresholds-read says good small)
+  thresholds-are = list-is (thresholds-read is-text good small)
 
   pub threshold-file-accepts : length bytes ≤ maxBytes → thresholdFileCheck bytes ≡ Accepted
   unfolding thresholdFileCheck
-  threshold-file-accepts short = both-accept (short-enough bytes short) (read-accepted (thresholds-read says good small))
+  threshold-file-accepts short = both-accept (short-enough bytes short) (read-accepted (thresholds-read is-text good small))
 
   -- the check that the reader promises, with room in the answer list
   pub threshold-text-accepts : length bytes ≤ maxBytes → (answers : List ℕ) → length ts ≤ length answers → thresholdTextCheck bytes answers ≡ Accepted

@@ -1,4 +1,4 @@
--- Texts that say lists within the limits are accepted, and the table of those lists is printed.
+-- Texts of lists within the limits are accepted, and the table of those lists is printed.
 use mathlib.Core.List.{List, map}
 use mathlib.Core.Path.{_≡_, _∙_}
 use Prim.Native.Nat.{ℕ, _≤_, _<_}
@@ -11,7 +11,7 @@ use Rattle.model.specs.declared.check.Check.the-variants.{Accepted}
 use Rattle.text.specs.EventText.{Row}
 use Rattle.text.specs.Numbers.{maxNumber}
 use Rattle.text.specs.Reading.{maxBytes}
-use Rattle.text.specs.Texts.{SaysNetwork, SaysEvents, SaysThresholds}
+use Rattle.text.specs.Texts.{IsNetworkText, IsEventText, IsThresholdText}
 use Rattle.network_reader.proofs.Accepts.{network-is, network-file-accepts}
 use Rattle.event_reader.proofs.Accepts.{over-network, events-are, event-file-accepts}
 use Rattle.threshold_reader.proofs.Accepts.{thresholds-are, threshold-file-accepts}
@@ -22,14 +22,15 @@ goes-on : {check : Check} (file more : List ℕ) → check ≡ Accepted → line
 unfolding lineOr
 goes-on file more e = rw e
 
--- Lists within the limits, and three texts that say them, in any layout: what is printed for these texts is the table of those lists.
-module _ {net : Network} {all : List Row} {ts network reports thresholds : List ℕ} (says-network : SaysNetwork net network) (says-reports : SaysEvents all reports) (says-thresholds : SaysThresholds ts thresholds) where
+-- Lists within the limits (of thresholds also: each no greater than a number in a text may be), and three texts of them, in any layout: what
+-- is printed for these texts is the table of those lists.
+module _ {net : Network} {all : List Row} {ts network reports thresholds : List ℕ} (is-network : IsNetworkText net network) (are-reports : IsEventText all reports) (are-thresholds : IsThresholdText ts thresholds) where
   pub table-printed : setsOverNetworkCheck net (map (λ r. r .set) all) (map (λ r. r .edge) all) (map (λ r. r .offset) all) ≡ Accepted → thresholdsCheck ts ≡ Accepted → ((k : ℕ) → k < length ts → getD ts k 0 ≤ maxNumber) → length network ≤ maxBytes → length reports ≤ maxBytes → length thresholds ≤ maxBytes → reportBytes network reports thresholds ≡ countsTable net (map (λ r. r .set) all) (events (map (λ r. r .edge) all) (map (λ r. r .offset) all)) ts
   unfolding reportBytes bytesOverNetwork bytesOverRows
   table-printed good rising small short-network short-reports short-thresholds =
-      let is = over-network net says-reports good in
-      goes-on _ _ (network-file-accepts says-network is short-network)
-      ∙ rw (network-is says-network is)
-      (goes-on _ _ (event-file-accepts net says-reports good short-reports)
-      ∙ rw (events-are net says-reports good)
-      (goes-on _ _ (threshold-file-accepts says-thresholds rising small short-thresholds) ∙ rw (thresholds-are says-thresholds rising small)))
+      let good-network = over-network net are-reports good in
+      goes-on _ _ (network-file-accepts is-network good-network short-network)
+      ∙ rw (network-is is-network good-network)
+      (goes-on _ _ (event-file-accepts net are-reports good short-reports)
+      ∙ rw (events-are net are-reports good)
+      (goes-on _ _ (threshold-file-accepts are-thresholds rising small short-thresholds) ∙ rw (thresholds-are are-thresholds rising small)))

@@ -18,7 +18,7 @@ use Rattle.text.specs.Fields.{comma, sameBytes}
 use Rattle.text.specs.Lines.{carriageReturn, csvLines}
 use Rattle.text.specs.Numbers.{maxNumber}
 use Rattle.text.specs.Reading.{taken, read, readLines, require}
-use Rattle.text.specs.Texts.{rowLine, eventText, SaysEvents, lacks}
+use Rattle.text.specs.Texts.{rowLine, eventText, IsEventText, lacks}
 use Rattle.text.proofs.Laws.Lacking.{numbered-lack, numbered-some}
 use Rattle.text.proofs.Laws.TextFields.{read-three}
 use Rattle.text.proofs.Laws.TextLines.{Plain, one-more, map-plain, csv-plain}
@@ -73,11 +73,11 @@ module _ (net : Network) (is : IsNetwork net) (all : List Row) (are : AreRows ne
       goes-on (eventStep net) 1 {s = before-header} {s′ = rows []} eventHeader (map rowLine all) refl
       ∙ rows-read (eventStep net) rows rowLine all row-taken 2
 
--- Rows within the limits, over a network that passes its check, in any text that says them: the text is accepted, and they are read.
-pub events-read : {net : Network} {all : List Row} {bytes : List ℕ} → SaysEvents all bytes → networkCheck net ≡ Accepted → AreRows net all → eventLines net (csvLines bytes) ≡ read all
+-- Rows within the limits, over a network that passes its check, in any text of them: the text is accepted, and they are read.
+pub events-read : {net : Network} {all : List Row} {bytes : List ℕ} → IsEventText all bytes → networkCheck net ≡ Accepted → AreRows net all → eventLines net (csvLines bytes) ≡ read all
 unfolding eventText eventLines eventEnd
-events-read {net} {all} says accepted are =
-    rw (says .is, csv-plain (says .closed) (one-more header-plain (map-plain carriageReturn rowLine row-plain all)), all-taken net (network-accepted net accepted) all are)
+events-read {net} {all} is-text accepted are =
+    rw (is-text .is, csv-plain (is-text .closed) (one-more header-plain (map-plain carriageReturn rowLine row-plain all)), all-taken net (network-accepted net accepted) all are)
 
 -- the place of a row, and what stands there in a list made one from each row
 record Place (r : Row) (all : List Row) : Type 0 where
@@ -93,8 +93,8 @@ place-of (List·Memᴰ·tail m) =
     record { at = suc (p .at); inside = omega (arith, p .inside); entry = p .entry }
 
 -- Rows that pass the check of reports given as lists are within the limits, so their text is accepted too.
-pub reports-read : (net : Network) {all : List Row} {bytes : List ℕ} → SaysEvents all bytes → setsOverNetworkCheck net (map (λ r. r .set) all) (map (λ r. r .edge) all) (map (λ r. r .offset) all) ≡ Accepted → eventLines net (csvLines bytes) ≡ read all
-reports-read net {all} says accepted = events-read says (network-accepts net (good .is-network)) (record { each = one; few = few })
+pub reports-read : (net : Network) {all : List Row} {bytes : List ℕ} → IsEventText all bytes → setsOverNetworkCheck net (map (λ r. r .set) all) (map (λ r. r .edge) all) (map (λ r. r .offset) all) ≡ Accepted → eventLines net (csvLines bytes) ≡ read all
+reports-read net {all} is-text accepted = events-read is-text (network-accepts net (good .is-network)) (record { each = one; few = few })
   where
     good : SetsAccepted net (map (λ r. r .set) all) (map (λ r. r .edge) all) (map (λ r. r .offset) all)
     good = sets-accepted net (map (λ r. r .set) all) (map (λ r. r .edge) all) (map (λ r. r .offset) all) accepted

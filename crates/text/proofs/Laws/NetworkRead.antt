@@ -20,7 +20,7 @@ use Rattle.text.specs.Lines.{lineFeed, feedLines}
 use Rattle.text.specs.NetworkText.{ArcRead, before-problem, reading, arc, turnsLast, takeArc, takeProblem, networkStep, networkEnd, ended, networkLines, everyOther, networkOfArcs, bothWays, arcsOf}
 use Rattle.text.specs.Parallel.{beside}
 use Rattle.text.specs.Reading.{taken, read, readLines, notTurned, wrongArcs}
-use Rattle.text.specs.Texts.{networkArcs, problemLine, arcLine, networkTextLines, SaysNetwork, lacks}
+use Rattle.text.specs.Texts.{networkArcs, problemLine, arcLine, networkTextLines, IsNetworkText, lacks}
 use Rattle.text.proofs.Laws.Lacking.{numbered-lack}
 use Rattle.text.proofs.Laws.Remarks.{lineStep, remarks-plain, remarks-passed}
 use Rattle.text.proofs.Laws.TextFields.{problem-line, arc-line}
@@ -164,15 +164,15 @@ module _ (net : Network) (is : IsNetwork net) where
   unfolding networkArcs
   all-there = arcs-length (net .firsts) (net .seconds) (net .lengths) (is .firsts-length) (is .seconds-length)
 
--- A network that passes its check, in any text that says it: the text's lines are accepted, and the network's arcs are read.
-pub network-read : {net : Network} {bytes : List ℕ} → SaysNetwork net bytes → networkCheck net ≡ Accepted → networkLines (feedLines bytes) ≡ read (reading (net .nodes) (2 * edges net) (networkArcs net))
+-- A network that passes its check, in any text of it: the text's lines are accepted, and the network's arcs are read.
+pub network-read : {net : Network} {bytes : List ℕ} → IsNetworkText net bytes → networkCheck net ≡ Accepted → networkLines (feedLines bytes) ≡ read (reading (net .nodes) (2 * edges net) (networkArcs net))
 unfolding networkLines ended networkEnd
-network-read {net} says accepted =
+network-read {net} is-text accepted =
     let is = network-accepted net accepted in
-    rw (says .is, feed-plain (says .closed) (remarks-plain (says .among) (lines-plain net is)), remarks-passed (says .among) 1 1 before-problem (all-taken net is))
+    rw (is-text .is, feed-plain (is-text .closed) (remarks-plain (is-text .among) (lines-plain net is)), remarks-passed (is-text .among) 1 1 before-problem (all-taken net is))
     (rw (eq-eqb (length (networkArcs net)) (2 * edges net) (all-there net is)))
 
--- The network of those arcs is the one that the text says.
+-- The network of those arcs is the one that the text is-text.
 pub network-back : (net : Network) → networkCheck net ≡ Accepted → networkOfArcs (net .nodes) (networkArcs net) ≡ net
 unfolding networkArcs
 network-back net accepted =

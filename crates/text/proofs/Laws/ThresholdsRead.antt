@@ -18,7 +18,7 @@ use Rattle.text.specs.Numbers.{maxNumber}
 use Rattle.text.specs.Reading.{taken, read, readLines, require}
 use Rattle.text.specs.ThresholdText.{thresholdHeader, values, before-header, aboveLast, takeThreshold, takeNumber, thresholdStep, thresholdEnd, thresholdLines}
 use Rattle.text.specs.Digits.{digits}
-use Rattle.text.specs.Texts.{thresholdText, SaysThresholds, lacks}
+use Rattle.text.specs.Texts.{thresholdText, IsThresholdText, lacks}
 use Rattle.text.proofs.Laws.Lacking.{digits-lack, digits-some}
 use Rattle.text.proofs.Laws.TextFields.{read-one}
 use Rattle.text.proofs.Laws.TextLines.{Plain, one-more, map-plain, csv-plain}
@@ -65,10 +65,10 @@ unfolding thresholdEnd
 some-read place [] some = absurd (omega arith)
 some-read place (t ∷ ts) some = refl
 
--- Thresholds that pass the check of a threshold list, and are no greater than a number in a text may be, in any text that says them: the
+-- Thresholds that pass the check of a threshold list, and are no greater than a number in a text may be, in any text of them: the
 -- text is accepted, and they are read.
-pub thresholds-read : {ts bytes : List ℕ} → SaysThresholds ts bytes → thresholdsCheck ts ≡ Accepted → ((k : ℕ) → k < length ts → getD ts k 0 ≤ maxNumber) → thresholdLines (csvLines bytes) ≡ read ts
+pub thresholds-read : {ts bytes : List ℕ} → IsThresholdText ts bytes → thresholdsCheck ts ≡ Accepted → ((k : ℕ) → k < length ts → getD ts k 0 ≤ maxNumber) → thresholdLines (csvLines bytes) ≡ read ts
 unfolding thresholdText thresholdLines
-thresholds-read {ts} says accepted small =
+thresholds-read {ts} is-text accepted small =
     let good = thresholds-accepted ts accepted in
-    rw (says .is, csv-plain (says .closed) (one-more header-plain (map-plain carriageReturn digits number-plain ts)), all-taken ts good small) (some-read _ ts (good .some))
+    rw (is-text .is, csv-plain (is-text .closed) (one-more header-plain (map-plain carriageReturn digits number-plain ts)), all-taken ts good small) (some-read _ ts (good .some))
