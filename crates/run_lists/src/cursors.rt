@@ -1,36 +1,39 @@
 // Positions and moves of the cursors of two edges. Each is told as one more, and 0 where there is no cursor. The routes stand first to
 // first end, first to second, second to first, second to second; then the window's two.
-use crate::answers;
-use crate::lists::entry;
-use crate::lists::list;
-use crate::lists::room;
+use cases::filled;
+use cases::labels;
+use cases::line_end;
+use cases::list;
+use cases::named;
+use cases::named_answer;
+use model::value_at;
 
-fn into(lists: &[u32], positions: &mut [u32], moves: &mut [u32]) {
+fn sweep(lists: &[u32], positions: &mut [u32], moves: &mut [u32]) {
     let check = sweep::cursors(
-        entry(lists, 1),
+        value_at(lists, 1),
         list(lists, 1),
         list(lists, 2),
         list(lists, 3),
         list(lists, 4),
         list(lists, 5),
-        entry(lists, 2),
-        entry(lists, 3),
-        entry(lists, 4),
-        entry(lists, 5),
+        value_at(lists, 2),
+        value_at(lists, 3),
+        value_at(lists, 4),
+        value_at(lists, 5),
         positions,
         moves,
     );
-    answers::verdict(answers::POSITIONS, check);
-    answers::entries(positions);
-    answers::list(answers::MOVES, moves);
+    named_answer(labels::POSITIONS, check, positions);
+    named(labels::MOVES, moves);
 }
 
 pub(crate) fn swept(lists: &[u32]) {
-    let mut positions = [99; 25];
-    let mut moves = [99; 7];
-    into(
+    line_end();
+    let mut first = [0; 32];
+    let mut second = [0; 8];
+    sweep(
         lists,
-        room(lists, 6, &mut positions),
-        room(lists, 7, &mut moves),
+        filled(list(lists, 6), &mut first),
+        filled(list(lists, 7), &mut second),
     );
 }

@@ -1,72 +1,55 @@
-// Functions over lists with known answers: the checks, laying out, the events on an edge, the three methods, stored numbers, cursors and
-// all of them at once, each refusal number that lists can meet among them. The cases stand in stdin: the name in a line of its own, then
-// lists, each behind its length, and an empty line. The first list holds lone numbers. Words without digits may stand between the numbers,
-// and say what they are. 99 stands in an answer list where nothing was written.
-mod answers;
-mod claim;
+// Functions over lists with known answers: the checks, laying out, the events on an edge, distances, perimeter counts, the three methods,
+// stored numbers, cursors and all of them at once, each refusal number that lists can meet among them. The cases stand in stdin, as the
+// crate `cases` reads them. The first list of a case holds lone numbers, and the last ones are answer lists: what stands in them shows what
+// was not written. A new function is an arm of `asked` here, or of the one in networks, and a section of stdin.
+mod checks;
+mod counts;
 mod cursors;
+mod distances;
 mod events;
-mod input;
-mod lists;
-mod methods;
 mod networks;
 mod show;
-mod stored;
 
-// How many lone numbers a case about counting has says what is asked.
-fn counted(lists: &[u32]) {
-    answers::line_end();
-    match lists::entry(lists, 0) {
-        2 => methods::three(lists),
-        3 => stored::given(lists),
-        7 => cursors::swept(lists),
-        _ => claim::answered(lists),
+use cases::list;
+use cases::next_case;
+use cases::numbers;
+use cases::verdict;
+
+// There are not so many cases.
+const MANY: u32 = 1000;
+
+// What the function of a number says of a case.
+fn asked(function: u32, lists: &[u32]) {
+    match function {
+        14 => verdict(validate::check_thresholds(list(lists, 1))),
+        15 => events::laid_out(lists),
+        16 => counts::three(lists),
+        17 => counts::stored(lists),
+        18 => cursors::swept(lists),
+        19 => counts::all_at_once(lists),
+        _ => networks::asked(function, lists),
     }
 }
 
-// What the function of a section says of a case.
-fn asked(section: u32, lists: &[u32]) {
-    match section {
-        0 => networks::network(lists),
-        1 => networks::nodes(lists),
-        2 => networks::locations(lists),
-        3 => events::sets(lists),
-        4 => events::set(lists),
-        5 => events::order(lists),
-        6 => events::thresholds(lists),
-        7 => events::stretch(lists),
-        _ => counted(lists),
-    }
+fn lists(function: u32, room: &mut [u32]) {
+    let read = numbers(room);
+    asked(function, read);
 }
 
-fn case(section: u32, lists: &mut [u32]) {
-    input::case(lists);
-    asked(section, lists);
-}
-
-fn section(section: u32, lists: &mut [u32]) {
-    let count = input::number();
-    let mut k = 0;
-    while k < count {
-        case(section, lists);
-        k += 1;
+fn cases(room: &mut [u32]) {
+    let mut function = 0;
+    let mut left = MANY;
+    while 0 < left {
+        function = next_case(function, room);
+        if function == 0 {
+            return;
+        }
+        lists(function, room);
+        left -= 1;
     }
-}
-
-fn sections(lists: &mut [u32]) {
-    let mut k = 0;
-    while k < 7 {
-        section(k, lists);
-        k += 1;
-    }
-    events::laid_out();
-    section(7, lists);
-    section(8, lists);
-    stored::laid_out(lists);
-    section(9, lists);
 }
 
 fn main() {
-    let mut lists = [0; 25000];
-    sections(&mut lists);
+    let mut room = [0; 25000];
+    cases(&mut room);
 }

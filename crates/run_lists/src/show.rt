@@ -1,47 +1,34 @@
-// Printing verdicts and lists.
-use libc::STDOUT_FILENO;
-use model::Check;
+// Printing distances and perimeter counts.
+use between::BoundedLength;
+use between::Length;
+use cases::line_end;
+use cases::number;
+use cases::refusal;
+use cases::word;
+use perimeter::Counted;
 
-pub(crate) fn word(text: &[u8]) {
-    io::write_all(STDOUT_FILENO, text);
-}
-
-fn number(n: u64) {
-    io::print_decimal(STDOUT_FILENO, n);
-    word(b" ");
-}
-
-fn entry(n: u32) {
-    number(n as u64);
-}
-
-// A verdict, behind the name of what was checked.
-pub(crate) fn verdict(check: Check) {
-    match check {
-        Check::Accepted => word(b" accepted"),
-        Check::Refused(n, place) => {
-            word(b" refused ");
-            number(n as u64);
-            number(place as u64);
-        }
+pub(crate) fn counted(answer: Counted) {
+    match answer {
+        Counted::Count(n) => number(n as u64),
+        Counted::Refused(n, place) => refusal(n, place),
     }
-    word(b"\n");
+    line_end();
 }
 
-// The numbers of a list, behind its name.
-pub(crate) fn entries(numbers: &[u32]) {
-    word(b" ");
-    let mut k = 0;
-    while k < numbers.len() {
-        entry(numbers[k]);
-        k += 1;
+pub(crate) fn length(answer: Length) {
+    match answer {
+        Length::Metres(n) => number(n as u64),
+        Length::NoWalk => word(b" no walk"),
+        Length::Refused(n, place) => refusal(n, place),
     }
-    word(b"\n");
+    line_end();
 }
 
-// The number told beside a list.
-pub(crate) fn told(n: u32) {
-    word(b"number ");
-    entry(n);
-    word(b"\n");
+pub(crate) fn bounded(answer: BoundedLength) {
+    match answer {
+        BoundedLength::Metres(n) => number(n as u64),
+        BoundedLength::Beyond => word(b" beyond"),
+        BoundedLength::Refused(n, place) => refusal(n, place),
+    }
+    line_end();
 }

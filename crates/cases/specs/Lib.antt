@@ -1,0 +1,2 @@
+-- What the lists of a case are.
+pub mod Lists

@@ -1,0 +1,71 @@
+// Printing words, numbers and lists.
+use crate::labels::label;
+use libc::STDOUT_FILENO;
+use model::Check;
+
+pub fn word(text: &[u8]) {
+    io::write_all(STDOUT_FILENO, text);
+}
+
+pub fn line_end() {
+    word(b"\n");
+}
+
+// A number behind a space.
+pub fn number(n: u64) {
+    word(b" ");
+    io::print_decimal(STDOUT_FILENO, n);
+}
+
+fn entry(n: u32) {
+    number(n as u64);
+}
+
+// The number and the place of a refusal.
+pub fn refusal(n: u32, place: usize) {
+    word(b" refused");
+    entry(n);
+    number(place as u64);
+}
+
+fn check(verdict: Check) {
+    match verdict {
+        Check::Accepted => word(b" accepted"),
+        Check::Refused(n, place) => refusal(n, place),
+    }
+}
+
+// A verdict, behind the name of what was checked.
+pub fn verdict(verdict: Check) {
+    check(verdict);
+    line_end();
+}
+
+// A list, behind a colon, and the line end.
+pub fn entries(numbers: &[u32]) {
+    word(b":");
+    let mut k = 0;
+    while k < numbers.len() {
+        entry(numbers[k]);
+        k += 1;
+    }
+    line_end();
+}
+
+// A list behind its name.
+pub fn named(list: u32, numbers: &[u32]) {
+    label(list);
+    entries(numbers);
+}
+
+// A verdict, and the answer list that goes with it.
+pub fn answer(verdict: Check, numbers: &[u32]) {
+    check(verdict);
+    entries(numbers);
+}
+
+// The same behind the name of the list.
+pub fn named_answer(list: u32, verdict: Check, numbers: &[u32]) {
+    label(list);
+    answer(verdict, numbers);
+}
