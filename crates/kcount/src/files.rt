@@ -51,7 +51,7 @@ fn read_all(fd: i32, text: &mut [u8]) -> usize
 
 // Fills the list from a file, and answers how many bytes were read. A file that cannot be opened, or of which any read fails,
 // counts as empty: its first part alone might be another text that is accepted.
-pub fn read(path: &[u8], text: &mut [u8]) -> usize
+pub(crate) fn read(path: &[u8], text: &mut [u8]) -> usize
     ensures { λ r. ⌜ r ≤ length (now (text .exit)) ⌝ }
 {
     let fd = open(path);
@@ -85,7 +85,7 @@ fn write_all(fd: i32, bytes: &[u8]) -> bool {
 }
 
 // Writes the bytes to standard output and closes it. If either fails, one line on standard error says so and why.
-pub fn print(bytes: &[u8]) {
+pub(crate) fn print(bytes: &[u8]) {
     if write_all(STDOUT_FILENO, bytes) {
         if libc::close(STDOUT_FILENO) == 0 {
             return;
