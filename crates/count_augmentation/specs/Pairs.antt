@@ -1,11 +1,11 @@
 -- What the functions over two runs keep: cited by inner functions alone.
-use mathlib.Core.Bool.{cond}
 use mathlib.Core.List.{List}
 use mathlib.Core.Path.{_≡_}
-use Prim.Native.Nat.{ℕ, pred, _+_, _*_, _≤_, _<_, min}
+use Prim.Native.Nat.{ℕ, pred, _+_, _*_, _≤_, _<_}
 use lib.Dec.{eqb}
 use lib.ListN.{length, getD}
 use Rattle.model.specs.Counting.{sumBelow}
+use Rattle.model.specs.Distance.{least, code, decode}
 use Rattle.model.specs.Limits.{maxNodes, maxEvents}
 use Rattle.model.specs.Network.{Network, first, second, size}
 use Rattle.prepare.specs.Prepared.{entry}
@@ -15,8 +15,8 @@ use Rattle.count_augmentation.specs.declared.pairs.EdgePair.{EdgePair}
 use Rattle.count_augmentation.specs.declared.pairs.Rows.{Rows}
 
 -- the entry of the lesser of two ways, and of the least of four; an entry of 0 is none
-unfoldable pub lesserEntry : ℕ → ℕ → ℕ
-lesserEntry a b = cond (eqb a 0) b (cond (eqb b 0) a (min a b))
+abbrev pub lesserEntry : ℕ → ℕ → ℕ
+lesserEntry a b = code (least (decode a) (decode b))
 
 unfoldable pub leastEntry : ℕ → ℕ → ℕ → ℕ → ℕ
 leastEntry ff fs sf ss = lesserEntry (lesserEntry ff fs) (lesserEntry sf ss)

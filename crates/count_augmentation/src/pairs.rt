@@ -8,7 +8,7 @@ ghost use Rattle.model.specs.Limits.{maxNodes, maxEvents};
 ghost use Rattle.model.specs.Network.{network};
 ghost use Rattle.prepare.specs.EndTable.{EndTable};
 ghost use Rattle.prepare.specs.Ways.{way};
-ghost use Rattle.count_augmentation.specs.Pairs.{lesserEntry, leastEntry, rowsOf, inRow, EndsRead, InRow, InRows, Apart, edgePair, toFirst, toSecond, reachedBy, reachedPairs, lookedUpBy, lookedUpPairs, TwoRuns};
+ghost use Rattle.count_augmentation.specs.Pairs.{leastEntry, rowsOf, inRow, EndsRead, InRow, InRows, Apart, edgePair, toFirst, toSecond, reachedBy, reachedPairs, lookedUpBy, lookedUpPairs, TwoRuns};
 ghost use Rattle.count_augmentation.specs.Reach.{Run};
 ghost use Rattle.count_augmentation.specs.Storing.{NumbersStored, storedLast};
 use crate::reach::count_reached;
@@ -17,6 +17,7 @@ use crate::reach::reach_by;
 use model::equals_end;
 use model::greater;
 use model::lesser;
+use model::lesser_entry;
 use prepare::way;
 
 // Two edges: their lengths, the table entries from each end of the one to each end of the other, whether they are one edge, and the
@@ -32,19 +33,7 @@ pub struct EdgePair {
     pub least: u32,
 }
 
-// The entry of the lesser of two ways; an entry of 0 is none.
-fn lesser_entry(a: u32, b: u32) -> u32
-    ensures { λ r. ⌜ r ≡ lesserEntry a b ⌝ }
-{
-    if a == 0 {
-        return b;
-    }
-    if b == 0 {
-        return a;
-    }
-    if b < a { b } else { a }
-}
-
+// The entry of the least of four ways; an entry of 0 is none.
 fn least_entry(ff: u32, fs: u32, sf: u32, ss: u32) -> u32
     ensures { λ r. ⌜ r ≡ leastEntry ff fs sf ss ⌝ }
 {

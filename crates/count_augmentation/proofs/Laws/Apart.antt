@@ -6,12 +6,12 @@ use Prim.Native.Nat.{ℕ, pred, _*_, _<_}
 use native.Mathlib.Omega.{arith}
 use borrow.Author.Tests.{le-leb}
 use Rattle.model.proofs.Laws.NodeDistance.{node-self}
-use Rattle.model.specs.Distance.{within, bounded, code}
+use Rattle.model.specs.Distance.{within, bounded, code, least, decode}
 use Rattle.model.specs.Network.{Network, IsNode, edges, first, second}
 use Rattle.model.specs.NodeDistance.{boundedDistance}
 use Rattle.prepare.proofs.Laws.Square.{held-entry, in-square, place-as}
 use Rattle.prepare.specs.EndTable.{EndTable}
-use Rattle.count_augmentation.specs.Pairs.{lesserEntry, leastEntry, rowsOf, InRow, InRows, EndsRead}
+use Rattle.count_augmentation.specs.Pairs.{leastEntry, rowsOf, InRow, InRows, EndsRead}
 use Rattle.count_augmentation.specs.Reach.{reachOf}
 use Rattle.count_augmentation.specs.declared.pairs.Rows.{Rows}
 
@@ -55,5 +55,5 @@ own-entry net bound u = simp (node-self net u, le-leb 0 bound (omega arith))
 
 -- by no way nothing is reached
 pub no-way : {ff fs sf ss : ℕ} (t : ℕ) → ff ≡ 0 → fs ≡ 0 → sf ≡ 0 → ss ≡ 0 → reachOf t 0 (leastEntry ff fs sf ss) ≡ 0
-unfolding reachOf leastEntry lesserEntry
+unfolding reachOf leastEntry decode least code
 no-way t a b c d = rw (a, b, c, d) refl

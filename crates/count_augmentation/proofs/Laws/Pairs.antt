@@ -10,6 +10,8 @@ use lib.Dec.{eqb, eqb·suc-zero}
 use lib.ListN.{length, getD}
 use Rattle.model.proofs.Laws.Counting.{count-at-most, sum-below-zero, sum-below-cong, sum-below-mono}
 use Rattle.model.specs.Counting.{sumBelow}
+use Rattle.model.specs.Distance.{least, code, decode}
+use Rattle.model.proofs.Laws.Codes.{lesser-first-none}
 use Rattle.model.specs.Limits.{maxEvents}
 use Rattle.model.specs.Network.{Network, first, second, size}
 use Rattle.prepare.specs.Prepared.{entry}
@@ -64,12 +66,12 @@ two-routes t p q x a b low h l = rw (reach-way t x a low, reach-way t (p - x) b 
 
 -- the lesser of a way and none, and of two
 lesser-none : (x : ℕ) → lesserEntry (suc x) 0 ≡ suc x
-unfolding lesserEntry
-lesser-none x = simp (eqb·suc-zero x)
+unfolding decode least code
+lesser-none x = refl
 
 lesser-two : (x y : ℕ) → lesserEntry (suc x) (suc y) ≡ suc (min x y)
-unfolding lesserEntry
-lesser-two x y = simp (eqb·suc-zero x, eqb·suc-zero y) (omega arith)
+unfolding decode least code
+lesser-two x y = refl
 
 reach-some : (t a x : ℕ) → reachOf t a (suc x) ≡ suc t - (a + x)
 unfolding reachOf
@@ -77,7 +79,7 @@ reach-some t a x = simp (eqb·suc-zero x)
 
 -- by the lesser of two ways one reaches as far as by either
 reach-either : (t a x y : ℕ) → reachOf t a (lesserEntry x y) ≡ max (reachOf t a x) (reachOf t a y)
-reach-either t a zero y = unfold reachOf lesserEntry in omega arith
+reach-either t a zero y = rw (← lesser-first-none 0 y refl) (unfold reachOf in omega arith)
 reach-either t a (suc x) zero = rw (lesser-none x) (unfold reachOf in omega arith)
 reach-either t a (suc x) (suc y) =
     rw (lesser-two x y, reach-some t a (min x y), reach-some t a x, reach-some t a y) (omega arith)
