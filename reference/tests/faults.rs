@@ -8,8 +8,9 @@
 
 mod common;
 
-use std::fs::{self, OpenOptions};
+use std::fs::{self, File, OpenOptions};
 use std::io::Write;
+use std::os::unix::fs::OpenOptionsExt;
 use std::os::unix::process::ExitStatusExt;
 use std::path::{Path, PathBuf};
 use std::process::{Command, Output, Stdio};
@@ -357,6 +358,19 @@ fn long_files() {
     assert_eq!(run(&program, &folder, 0, &[]).out, FULL_OUTPUT);
 }
 
+/// The end of a named pipe that is written to, as soon as the program has opened
+/// the other one. A program that never does so fails here and does not hang.
+fn writing_end(path: &Path) -> File {
+    const O_NONBLOCK: i32 = 0o4000;
+    for _ in 0..10_000 {
+        if let Ok(pipe) = OpenOptions::new().write(true).custom_flags(O_NONBLOCK).open(path) {
+            return pipe;
+        }
+        thread::sleep(Duration::from_millis(1));
+    }
+    panic!("{} is not opened", path.display());
+}
+
 /// A named pipe, written to in pieces with rests between them, is read to its end.
 #[test]
 fn a_named_pipe_in_a_files_place() {
@@ -370,8 +384,7 @@ fn a_named_pipe_in_a_files_place() {
             assert!(Command::new("mkfifo").arg(&path).status().expect("mkfifo").success());
             let child = Command::new(&program).current_dir(&folder).stdout(Stdio::piped()).stderr(Stdio::piped()).spawn();
             let child = child.expect("it runs");
-            // Opening waits until the program opens the other end.
-            let mut pipe = OpenOptions::new().write(true).open(&path).expect("a pipe");
+            let mut pipe = writing_end(&path);
             for part in bytes.chunks(piece) {
                 pipe.write_all(part).expect("a part");
                 thread::sleep(Duration::from_millis(1));
