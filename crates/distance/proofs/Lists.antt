@@ -27,14 +27,6 @@ set-cases l i v j h = go (ℕ-discrete j i)
     go (yes e) = inl (e, rw (e, getD-set-same l i v 0 h))
     go (no n) = inr (n, getD-set-other l i j v 0 n)
 
--- a list whose entries below n are 0, n at least its length, reads 0 everywhere
-pub zeros : (l : List ℕ) (n : ℕ) → length l ≤ n → ((j : ℕ) → j < n → getD l j 0 ≡ 0) → (k : ℕ) → getD l k 0 ≡ 0
-zeros l n short all k = go (decLt k n)
-  where
-    go : Dec (k < n) → getD l k 0 ≡ 0
-    go (yes h) = all k h
-    go (no h) = List·getD-eq-default l 0 (omega arith)
-
 -- a loop that replaces the entries of a list one after the other: P relates each old entry below n to its new one
 pub record Swept (P : ℕ → ℕ → Type 0) (old new : List ℕ) (n : ℕ) : Type 0 where
   pub same-length : length new ≡ length old

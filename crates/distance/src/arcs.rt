@@ -1,9 +1,10 @@
 // A network's edges as arcs, linked by the node where they begin.
 ghost use mathlib.Core.Path.{_≡_};
 ghost use Prim.Native.Nat.{ℕ, _+_, _/_, _≤_, _<_};
-ghost use lib.ListN.{length, getD};
+ghost use lib.ListN.{length};
 ghost use Rattle.model.specs.Limits.{maxEdges};
 ghost use Rattle.distance.specs.Arcs.{tail, Linked};
+use model::clear;
 
 // Where an arc begins; with the lists swapped, where it ends.
 pub(crate) fn tail_of(firsts: &[u32], seconds: &[u32], arc: usize) -> u32
@@ -29,16 +30,5 @@ pub(crate) fn link(nodes: u32, firsts: &[u32], seconds: &[u32], last: &mut [u32]
         next[a] = last[v];
         last[v] = (a + 1) as u32;
         a += 1;
-    }
-}
-
-// Sets every entry to 0.
-pub(crate) fn clear(list: &mut [u32])
-    ensures { λ _. ⌜ ((k : ℕ) → getD (now (list .exit)) k 0 ≡ 0) ⌝ }
-{
-    let mut k = 0;
-    while k < list.len() {
-        list[k] = 0;
-        k += 1;
     }
 }

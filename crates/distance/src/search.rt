@@ -6,7 +6,6 @@ ghost use Rattle.model.specs.Limits.{maxNodes};
 ghost use Rattle.model.specs.Network.{network};
 ghost use Rattle.distance.specs.Keys.{Keyed};
 ghost use Rattle.distance.specs.Search.{Ready, Searched, State, Following, Clipped};
-use crate::arcs::clear;
 use crate::arcs::tail_of;
 use crate::front::offer;
 use crate::front::remove;
@@ -15,6 +14,7 @@ use crate::keys::key_of;
 use crate::keys::least_of_fours;
 use crate::keys::place_of;
 use model::Network;
+use model::clear;
 use model::lesser;
 
 // Why the search stopped: every node reached is settled, or the nearest one waiting is beyond the bound.

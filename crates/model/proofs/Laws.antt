@@ -11,6 +11,7 @@ pub mod Cases
 pub mod Counting
 pub mod Lists
 pub mod Equals
+pub mod Zeros
 pub mod Rows
 pub mod Sorted
 pub mod Perimeter

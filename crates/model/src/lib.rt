@@ -13,6 +13,7 @@ pub use code::lesser_code;
 pub use code::lesser_entry;
 pub use event_set::EventSet;
 pub use event_set::MadeEventSet;
+pub use list::clear;
 pub use list::equals_end;
 pub use list::value_at;
 pub use network::MadeNetwork;

@@ -1,6 +1,6 @@
-// Lists of numbers: an entry, and equal entries that stand in a row.
+// Lists of numbers: an entry, equal entries that stand in a row, and all entries set to 0.
 ghost use mathlib.Core.Path.{_≡_};
-ghost use lib.ListN.{getD};
+ghost use lib.ListN.{length, getD, replicate};
 ghost use Rattle.model.specs.Counting.{equalsEnd};
 
 // An entry of a list, 0 behind its end.
@@ -26,4 +26,15 @@ pub fn equals_end(list: &[u32], from: usize) -> usize
         k += 1;
     }
     k
+}
+
+// Sets every entry to 0.
+pub fn clear(list: &mut [u32])
+    ensures { λ _. ⌜ now (list .exit) ≡ replicate (length (now (list .entry))) 0 ⌝ }
+{
+    let mut k = 0;
+    while k < list.len() {
+        list[k] = 0;
+        k += 1;
+    }
 }

@@ -6,6 +6,7 @@ use crate::cursor::rest;
 use crate::cursor::route;
 use crate::cursor::up_to;
 use model::apart;
+use model::clear;
 ghost use mathlib.Core.Path.{_≡_};
 ghost use lib.ListN.{length, replicate};
 ghost use Rattle.sweep.specs.Moving.{sideOf};
@@ -57,17 +58,6 @@ pub fn code_between(edges: Edges, first1: bool, first2: bool) -> u32
         return edges.sf;
     }
     edges.ss
-}
-
-// Sets every entry to 0: no cursor.
-fn clear(list: &mut [u32])
-    ensures { λ _. ⌜ now (list .exit) ≡ replicate (length (now (list .entry))) 0 ⌝ }
-{
-    let mut k = 0;
-    while k < list.len() {
-        list[k] = 0;
-        k += 1;
-    }
 }
 
 // The positions of a cursor, written from a place on, and its moves; zeros where there is no cursor.

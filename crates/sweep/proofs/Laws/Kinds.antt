@@ -82,17 +82,3 @@ up-to-standing t q ys x = count-cong _ _ ys (λ y. go y (decLe y (x + t)))
 pub map-agree : {B : Type 0} (f g : ℕ → B) (xs : List ℕ) → ((k : ℕ) → k < length xs → f (getD xs k 0) ≡ g (getD xs k 0)) → map f xs ≡ map g xs
 map-agree f g [] h = refl
 map-agree f g (x ∷ xs) h = ap₂ _∷_ (h 0 (omega arith)) (map-agree f g xs (λ k l. h (suc k) (omega arith)))
-
--- one entry more is 0, and then all are
-pub zeros-more : (l old : List ℕ) (k : ℕ) → l ≡ replicate k 0 ++ drop k old → k < length old → set l k 0 ≡ replicate (k + 1) 0 ++ drop (k + 1) old
-zeros-more l old k e h = rw e (fill-more k 0 old h)
-
-pub zeros-all : (l old : List ℕ) (k : ℕ) → l ≡ replicate k 0 ++ drop k old → length l ≡ length old → length l ≤ k → l ≡ replicate (length old) 0
-zeros-all l old k e same h =
-    e
-    ∙ ap (λ (r : List ℕ). replicate k 0 ++ r) (drop-of-length-le old (rw same at h))
-    ∙ append-nil (replicate k 0)
-    ∙ ap (λ (n : ℕ). replicate n 0) {x = k} {y = length old} (zero-rest)
-  where
-    zero-rest : k ≡ length old
-    zero-rest = omega (arith, simp (length-append, length-replicate) at (ap length e))

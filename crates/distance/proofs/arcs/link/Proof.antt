@@ -8,13 +8,13 @@ use native.Mathlib.Omega.{arith}
 use borrow.Author.Needs.{needs}
 use borrow.Author.Tests.{eq-eqb, ne-eqb}
 use lib.ListN.{length, getD, length-set}
+use Rattle.model.proofs.Laws.Zeros.{cleared}
 use Rattle.distance.specs.Arcs.{tail, lastArc, Linked}
 use Rattle.distance.proofs.Chains.{link-none, link-more}
 use Rattle.distance.proofs.arcs.link.Statement.{statement}
 use Rattle.distance.proofs.arcs.link.Tie as tie
 use Rattle.distance.proofs.arcs.link.Reads as reads
 use Rattle.distance.proofs.arcs.link.Lts as lts
-use Rattle.distance.proofs.arcs.clear.Reads as clear-reads
 use Rattle.distance.proofs.arcs.tail_of.Reads as tail-of-reads
 
 abbrev Inv-loop : tie.InvT-loop
@@ -39,7 +39,7 @@ loop-holds c =
       search needs,
       refl,
       refl,
-      link-none _ _ _ _ _ (omega (arith, c .before .before .clear .kept .0, start .pre .1 .0 .0)) (c .before .before .clear .ensures),
+      link-none _ _ _ _ _ (omega (arith, c .before .before .clear .kept .0, start .pre .1 .0 .0)) (cleared (length (start .args .last .now)) (c .before .before .clear .ensures)),
     )
 
 tail-of-requires : tie.Need-tail-of-requires Inv-loop μ-loop

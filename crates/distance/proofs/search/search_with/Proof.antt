@@ -6,6 +6,7 @@ use Rattle.distance.proofs.Slots.{ready-again}
 use Rattle.distance.proofs.Stops.{searched, searched-all}
 use Rattle.distance.proofs.Turns.{Turn, turn-start, all-few, keys-fit, waits, turn-nearest, nearest-reached, removable, turn-ready, turn-pick, turn-keyed}
 use Rattle.distance.specs.Keys.{Least}
+use Rattle.model.proofs.Laws.Zeros.{cleared}
 use Rattle.model.specs.Network.{network}
 use borrow.Author.Needs.{needs}
 use lib.ListN.{length, length-set}
@@ -57,7 +58,7 @@ slice-write-slots : tie.Need-slice-write-slots Inv-loop μ-loop Inv-picking μ-p
 slice-write-slots c = omega (arith, c .before .before .before .before .before .before .before .before .before .before .before .before .before .before .pre .1 .1, c .before .before .before .before .before .before .before .before .before .before .before .before .before .before .pre .0 .few-nodes, c .before .before .before .before .before .before .before .before .before .before .before .before .before .before .pre .0 .source-is .to-nodes)
 
 picking-holds : tie.Need-picking-holds Inv-loop μ-loop Inv-picking μ-picking
-picking-holds c = (turn-start _ (c .before .before .before .clear .last .0) (c .before .before .before .before .before .before .before .before .before .before .before .before .before .before .args .keys .now) (c .before .before .before .before .before .before .before .before .before .before .before .before .before .before .args .slots .now) _ (c .before .before .before .before .before .before .before .before .before .before .before .before .before .before .pre .0) (c .before .before .before .before .before .before .before .before .before .before .before .before .before .before .pre .1 .0) (c .before .before .before .before .before .before .before .before .before .before .before .before .before .before .pre .1 .1) (c .before .before .before .clear .kept .0) (c .before .before .before .clear .ensures) (c .key-of .ensures), refl, refl, refl, refl)
+picking-holds c = (turn-start _ (c .before .before .before .clear .last .0) (c .before .before .before .before .before .before .before .before .before .before .before .before .before .before .args .keys .now) (c .before .before .before .before .before .before .before .before .before .before .before .before .before .before .args .slots .now) _ (c .before .before .before .before .before .before .before .before .before .before .before .before .before .before .pre .0) (c .before .before .before .before .before .before .before .before .before .before .before .before .before .before .pre .1 .0) (c .before .before .before .before .before .before .before .before .before .before .before .before .before .before .pre .1 .1) (c .before .before .before .clear .kept .0) (cleared (length (c .before .before .before .before .before .before .before .before .before .before .before .before .before .before .args .dist .now)) (c .before .before .before .clear .ensures)) (c .key-of .ensures), refl, refl, refl, refl)
 
 least-of-fours-requires : tie.Need-least-of-fours-requires Inv-loop μ-loop Inv-picking μ-picking
 least-of-fours-requires c κs = (omega (arith, c .before .picking .inv .0 .keyed .keys-room, c .before .picking .inv .0 .ready .source-is .from-one, c .before .picking .inv .0 .ready .source-is .to-nodes), keys-fit (c .before .picking .inv .0))

@@ -3,11 +3,11 @@ use mathlib.Core.List.{_++_}
 use mathlib.Core.Path.{_≡_, refl}
 use Prim.Native.Nat.{_-_}
 use lib.ListN.{length, drop, replicate, length-set}
-use Rattle.sweep.proofs.Laws.Kinds.{zeros-more, zeros-all}
+use Rattle.model.proofs.Laws.Zeros.{zeros-more, zeros-all}
 use borrow.Author.Needs.{needs}
 use native.Mathlib.Omega.{arith}
-use Rattle.sweep.proofs.sweeping.clear.Statement.{statement}
-use Rattle.sweep.proofs.sweeping.clear.Tie as tie
+use Rattle.model.proofs.list.clear.Statement.{statement}
+use Rattle.model.proofs.list.clear.Tie as tie
 
 abbrev Inv-loop : tie.InvT-loop
 Inv-loop list₀ k₀ list k = (length list ≡ length list₀) × (list ≡ replicate k 0 ++ drop k list₀)
