@@ -6,29 +6,13 @@ ghost use Rattle.model.specs.Limits.{maxEvents};
 ghost use Rattle.model.specs.Network.{network};
 ghost use Rattle.prepare.specs.Counts.{CountsAnswered};
 ghost use Rattle.prepare.specs.RunPairs.{otherRow, RowReady};
-ghost use Rattle.prepare.specs.Totals.{Steps, RowFits, RowSummed};
+ghost use Rattle.prepare.specs.Totals.{Steps};
 use crate::runs::bound;
 use crate::runs::store_runs;
 use crate::totals::add_all;
 use model::Check;
 use model::EventSet;
 use model::Thresholds;
-
-// The counts of a set at each threshold: the pairs within its runs and twice those with earlier ones; an event is no pair with itself.
-fn write_row(bounds: &[u32], r: usize, q: usize, beside: &[u64], earlier: &[u64], row: &mut [u32])
-    requires { ⌜ RowFits (now bounds) r q (now beside) (now earlier) (length (now row)) ⌝ }
-    ensures { λ _. ⌜ RowSummed (now (bounds .entry)) r q (now (beside .entry)) (now (earlier .entry)) (now (row .entry)) (now (row .exit)) ⌝ }
-{
-    let events = bound(bounds, q) - bound(bounds, r);
-    let themselves = events as u64;
-    let mut k = 0;
-    while k < row.len() {
-        let total = beside[k] + 2 * earlier[k];
-        let others = total - themselves;
-        row[k] = others as u32;
-        k += 1;
-    }
-}
 
 // The row of a set whose runs are those from r up to before q.
 fn set_row(
@@ -70,7 +54,7 @@ fn set_row(
         &mut beside,
         &mut earlier,
     );
-    write_row(bounds, r, q, &beside, &earlier, row);
+    prepare::write_row(bounds, r, q, &beside, &earlier, row);
 }
 
 // `counts` with working storage lent.

@@ -1,13 +1,13 @@
 -- Rows of entries: how one is copied, that it is the row of distances, and how far these go.
-use mathlib.Core.List.{List, [], _∷_, _++_, map}
-use mathlib.Core.Path.{_≡_, _∙_, refl, sym, ap}
-use Prim.Native.Nat.{ℕ, zero, suc, _+_, _*_, _<_, _≤_}
+use mathlib.Core.List.{List, _++_}
+use mathlib.Core.Path.{_≡_, _∙_, sym, ap}
+use Prim.Native.Nat.{ℕ, suc, _+_, _*_, _<_, _≤_}
 use native.Mathlib.Numerals.{add-one}
 use native.Mathlib.Omega.{arith}
 use lib.ListN.{length, getD, take, drop, set, length-drop}
 use lib.Seq.{drop-cons, take-suc, append-snoc, set-at, length-take-le, getD-take, getD-drop}
 use Rattle.model.proofs.Laws.Codes.{code-unique}
-use Rattle.model.specs.Counting.{numbersFrom}
+use Rattle.model.proofs.Laws.Lists.{all-entries}
 use Rattle.model.specs.Distance.{code}
 use Rattle.model.specs.Limits.{maxLength, maxNodes}
 use Rattle.model.specs.Network.{Network}
@@ -21,17 +21,6 @@ copy-more from old new k inside room e =
     ap (λ (l : List ℕ). set l k (getD from k 0)) (e ∙ ap (λ (l : List ℕ). take k from ++ l) (drop-cons old k 0 room))
     ∙ set-at (take k from) (getD old k 0) (drop (suc k) old) (getD from k 0) k (length-take-le k from (omega arith))
     ∙ sym (rw (add-one, take-suc from k 0 inside, append-snoc))
-
--- a list whose entries are those of f from start on
-pub all-entries : (f : ℕ → ℕ) (l : List ℕ) (start n : ℕ) → length l ≡ n → ((k : ℕ) → k < n → getD l k 0 ≡ f (start + k)) → l ≡ map f (numbersFrom start n)
-unfolding numbersFrom
-all-entries f [] start zero e h = refl
-all-entries f [] start (suc n) e h = absurd (omega arith)
-all-entries f (x ∷ l) start zero e h = absurd (omega arith)
-all-entries f (x ∷ l) start (suc n) e h = head (h 0 (omega arith)) (all-entries f l (suc start) n (omega arith) (λ k i. h (suc k) (omega arith) ∙ ap f (omega arith)))
-  where
-    head : x ≡ f (start + 0) → l ≡ map f (numbersFrom (suc start) n) → x ∷ l ≡ f start ∷ map f (numbersFrom (suc start) n)
-    head p q = rw (p ∙ ap f {y = start} (omega arith), ← q)
 
 -- what a search leaves, from node 1 on, is the row of distances
 pub searched-row : {net : Network} {source bound : ℕ} {dist : List ℕ} → Searched net source bound dist → net .nodes < length dist → take (net .nodes) (drop 1 dist) ≡ distanceRow net bound source

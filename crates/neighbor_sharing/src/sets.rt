@@ -6,26 +6,10 @@ ghost use lib.ListN.{length};
 ghost use Rattle.model.specs.Network.{network};
 ghost use Rattle.prepare.specs.Counts.{CountsAnswered};
 ghost use Rattle.prepare.specs.RunPairs.{otherRow, RowReady};
-ghost use Rattle.prepare.specs.Totals.{Steps, RowFits, RowSummed};
+ghost use Rattle.prepare.specs.Totals.{Steps};
 use model::Check;
 use model::EventSet;
 use model::Thresholds;
-
-// The counts of a set at each threshold: the pairs within its runs and twice those with earlier ones; an event is no pair with itself.
-fn write_row(bounds: &[u32], r: usize, q: usize, beside: &[u64], earlier: &[u64], row: &mut [u32])
-    requires { ⌜ RowFits (now bounds) r q (now beside) (now earlier) (length (now row)) ⌝ }
-    ensures { λ _. ⌜ RowSummed (now (bounds .entry)) r q (now (beside .entry)) (now (earlier .entry)) (now (row .entry)) (now (row .exit)) ⌝ }
-{
-    let events = place(bounds, q) - place(bounds, r);
-    let themselves = events as u64;
-    let mut k = 0;
-    while k < row.len() {
-        let total = beside[k] + 2 * earlier[k];
-        let others = total - themselves;
-        row[k] = others as u32;
-        k += 1;
-    }
-}
 
 // The row of a set whose runs are those from r up to before q: its count at each threshold.
 fn set_row(
@@ -62,7 +46,7 @@ fn set_row(
         &mut beside,
         &mut earlier,
     );
-    write_row(bounds, r, q, &beside, &earlier, row);
+    prepare::write_row(bounds, r, q, &beside, &earlier, row);
 }
 
 // The same for all sets, with working storage lent.

@@ -2,6 +2,7 @@
 mod checks;
 mod ends;
 mod laying_out;
+mod rows;
 mod runs;
 mod sets;
 mod ways;
@@ -14,6 +15,7 @@ use laying_out::lay_runs;
 use model::Check;
 use model::EventSet;
 use model::Network;
+pub use rows::write_row;
 pub use ways::FAR;
 pub use ways::way;
 

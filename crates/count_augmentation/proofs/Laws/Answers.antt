@@ -1,22 +1,19 @@
 -- The answer lists: the stored numbers of all events are those of the definition, and what stands behind them is kept.
 use mathlib.Core.Bool.{cond}
-use mathlib.Core.List.{List, [], _∷_, _++_, map}
+use mathlib.Core.List.{List, [], _∷_, _++_}
 use mathlib.Core.Path.{_≡_, refl, sym, ap, _∙_}
 use Prim.Native.Nat.{ℕ, zero, suc, pred, _+_, _-_, _≤_, _<_}
 use native.Mathlib.Decide.{ℕ-discrete}
 use native.Mathlib.Omega.{arith}
 use borrow.Author.Tests.{eq-eqb, ne-eqb}
 use lib.Dec.{eqb}
-use lib.ListN.{length, getD, drop, length-append, length-drop, length-map}
-use lib.Seq.{ext-getD}
-use Rattle.distance.proofs.Laws.Rows.{from-numbers}
+use lib.ListN.{length, getD, drop, length-append, length-drop}
 use Rattle.model.proofs.Laws.Checks.{AreEvents}
-use Rattle.model.proofs.Laws.Lists.{numbers-length}
+use Rattle.model.proofs.Laws.Lists.{all-entries}
 use Rattle.model.specs.Answer.{written}
 use Rattle.model.specs.Events.{having}
 use Rattle.model.specs.Location.{Side, at-first, at-second}
 use Rattle.model.specs.Network.{Network, size}
-use Rattle.model.specs.Counting.{numbersFrom}
 use Rattle.model.specs.declared.check.Check.{Check}
 use Rattle.model.specs.declared.check.Check.the-variants.{Accepted, Refused}
 use Rattle.count_augmentation.specs.Augmented.{stored, augmented, augmentCheck, Augmented}
@@ -55,9 +52,7 @@ module _ (net : Network) (es xs : List ℕ) (events : AreEvents net es xs) where
     list-augmented : ((k : ℕ) → k < length es → getD near k 0 ≡ stored net side es xs k) → near ≡ augmented net side es xs
     unfolding augmented
     list-augmented at =
-        ext-getD 0 near (map (stored net side es xs) (numbersFrom 0 (length es)))
-        (long ∙ sym (length-map (numbersFrom 0 (length es)) (stored net side es xs) ∙ numbers-length 0 (length es)))
-        (λ k h. at k (omega arith) ∙ sym (from-numbers (stored net side es xs) 0 (length es) k (omega arith) ∙ ap (stored net side es xs) {x = 0 + k} {y = k} (omega arith)))
+        all-entries (stored net side es xs) near 0 (length es) long (λ k h. at k h ∙ ap (stored net side es xs) {x = k} {y = 0 + k} (omega arith))
 
   module _ (near-first near-second : List ℕ) (numbers : EventsStored es xs (length es) near-first near-second) where
     first-augmented : length near-first ≡ length es → near-first ≡ augmented net at-first es xs

@@ -6,7 +6,7 @@ use native.Mathlib.Omega.{arith}
 use lib.ListN.{length, getD, length-map, List·getD-append}
 use Rattle.model.proofs.Laws.Answer.{written-is}
 use Rattle.model.proofs.Laws.CheckParts.{lone-node-accept, room-accepts}
-use Rattle.model.proofs.Laws.Lists.{numbers-length}
+use Rattle.model.proofs.Laws.Lists.{numbers-length, from-numbers}
 use Rattle.model.proofs.Laws.Refusal.{both-accepted, both-accept}
 use Rattle.model.specs.Checks.{networkCheck, networkValues}
 use Rattle.model.specs.Counting.{numbersFrom}
@@ -17,13 +17,6 @@ use Rattle.model.specs.declared.check.Check.{Check}
 use Rattle.model.specs.declared.check.Check.the-variants.{Accepted}
 use Rattle.distance.specs.Answers.{distanceRow, rowCheck, RowAnswered}
 use Rattle.distance.specs.Search.{Found}
-
--- the entry of a list made from successive numbers
-pub from-numbers : (f : ℕ → ℕ) (start n k : ℕ) → k < n → getD (map f (numbersFrom start n)) k 0 ≡ f (start + k)
-unfolding numbersFrom
-from-numbers f start zero k h = absurd (omega arith)
-from-numbers f start (suc n) zero h = ap f (omega arith)
-from-numbers f start (suc n) (suc k) h = from-numbers f (suc start) n k (omega arith) ∙ ap f (omega arith)
 
 module _ (net : Network) (bound source : ℕ) where
   -- a row has an entry for each node

@@ -148,6 +148,24 @@ unfolding numbersFrom
 numbers-length start zero = refl
 numbers-length start (suc n) = ap suc (numbers-length (suc start) n)
 
+-- the entry of a list made from successive numbers
+pub from-numbers : (f : ℕ → ℕ) (start n k : ℕ) → k < n → getD (map f (numbersFrom start n)) k 0 ≡ f (start + k)
+unfolding numbersFrom
+from-numbers f start zero k h = absurd (omega arith)
+from-numbers f start (suc n) zero h = ap f (omega arith)
+from-numbers f start (suc n) (suc k) h = from-numbers f (suc start) n k (omega arith) ∙ ap f (omega arith)
+
+-- a list whose entries are those of f from start on
+pub all-entries : (f : ℕ → ℕ) (l : List ℕ) (start n : ℕ) → length l ≡ n → ((k : ℕ) → k < n → getD l k 0 ≡ f (start + k)) → l ≡ map f (numbersFrom start n)
+unfolding numbersFrom
+all-entries f [] start zero e h = refl
+all-entries f [] start (suc n) e h = absurd (omega arith)
+all-entries f (x ∷ l) start zero e h = absurd (omega arith)
+all-entries f (x ∷ l) start (suc n) e h = head (h 0 (omega arith)) (all-entries f l (suc start) n (omega arith) (λ k i. h (suc k) (omega arith) ∙ ap f (omega arith)))
+  where
+    head : x ≡ f (start + 0) → l ≡ map f (numbersFrom (suc start) n) → x ∷ l ≡ f start ∷ map f (numbersFrom (suc start) n)
+    head p q = rw (p ∙ ap f {y = start} (omega arith), ← q)
+
 -- what a function makes of the element at a place
 pub map-at : (f : ℕ → ℕ) (l : List ℕ) (k : ℕ) → k < length l → getD (map f l) k 0 ≡ f (getD l k 0)
 map-at f [] k h = absurd (omega arith)

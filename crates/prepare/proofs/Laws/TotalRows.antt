@@ -4,50 +4,46 @@ use mathlib.Core.Path.{_≡_, sym, ap, _∙_}
 use Prim.Native.Nat.{ℕ, _+_, _-_, _*_, _≤_, _<_}
 use native.Mathlib.Omega.{arith}
 use lib.ListN.{length, getD, length-map, replicate, length-replicate, getD-replicate}
-use lib.Seq.{ext-getD}
 use Rattle.model.proofs.Laws.Checks.{ThresholdsAccepted}
-use Rattle.model.proofs.Laws.Lists.{map-at}
+use Rattle.model.proofs.Laws.Lists.{map-at, all-entries}
 use Rattle.model.specs.Network.{Network}
 use Rattle.prepare.specs.Prepared.{greatest}
-use Rattle.prepare.specs.RunPairs.{allPairs, otherPairs, otherRow, RowReady}
-use Rattle.prepare.specs.Totals.{Steps, UpTo, Totalled, RowFits, RowSummed}
+use Rattle.prepare.specs.RunPairs.{otherPairs, otherRow, RowReady}
+use Rattle.prepare.specs.Totals.{Steps, UpTo, maxTotal, Totalled, leftOf, rowLeft}
 use Rattle.prepare.proofs.Laws.Filled.{Filled}
 use Rattle.prepare.proofs.Laws.SetPairs.{at-most-greatest}
 
--- what the code leaves of a total
-unfoldable pub leftOf : List ℕ → ℕ → ℕ → List ℕ → List ℕ → ℕ → ℕ
-leftOf bounds r q beside earlier k = getD beside k 0 + 2 * getD earlier k 0 - (getD bounds q 0 - getD bounds r 0)
-
+-- a row filled from the front
 pub row-begins : (f : ℕ → ℕ) (row : List ℕ) → Filled f 0 0 row
 row-begins f row = record { at = λ j l h. absurd (omega arith) }
 
-pub row-ends : {bounds beside earlier old new : List ℕ} {r q k : ℕ} → Filled (leftOf bounds r q beside earlier) 0 k new → length old ≤ k → RowSummed bounds r q beside earlier old new
+module _ (bounds beside earlier : List ℕ) (r q : ℕ) where
+  -- what is left at threshold k
+  abbrev pub left : ℕ → ℕ
+  left k = leftOf (getD beside k 0) (getD earlier k 0) (getD bounds q 0 - getD bounds r 0)
+
+  pub row-ends : (old new : List ℕ) {k : ℕ} → length new ≡ length old → Filled left 0 k new → length new ≤ k → new ≡ rowLeft bounds r q beside earlier (length old)
+  unfolding rowLeft
+  row-ends old new same filled all =
+      all-entries left new 0 (length old) same (λ k h. filled .at k (omega arith) (omega arith) ∙ ap left {x = k} {y = 0 + k} (omega arith))
+
+-- within the limits nothing is cut off
+uncut : (a b events n : ℕ) → a ≤ maxTotal → b ≤ maxTotal → a + 2 * b ≡ n → n - events < 4294967296 → leftOf a b events ≡ n - events
 unfolding leftOf
-row-ends filled h = record { at = λ j l. filled .at j (omega arith) (omega arith) }
+uncut a b events n first second sum small = omega arith
 
 -- the row of a set
 module _ {net : Network} {table es xs bounds ts : List ℕ} {r q : ℕ} (w : RowReady net table es xs bounds ts r q) {beside earlier : List ℕ} (totals : Totalled net es xs bounds ts r q beside earlier) where
-  pub row-fits : Steps ts → (n : ℕ) → n ≡ length ts → RowFits bounds r q beside earlier n
+  left-is : (k : ℕ) → k < length ts → leftOf (getD beside k 0) (getD earlier k 0) (getD bounds q 0 - getD bounds r 0) ≡ otherPairs net es xs bounds (getD ts k 0) r q
   unfolding otherPairs
-  row-fits steps n long =
-      let some = steps .some in
-      rw long
-      (record {
-        in-order = w .ready-at 0 some .in-order;
-        in-bounds = w .ready-at 0 some .in-bounds;
-        begins = w .fits-at 0 some .begins;
-        beside-small = totals .beside-small;
-        earlier-small = totals .earlier-small;
-        themselves = λ k h. rw (totals .sum k h) (w .fits-at k h .themselves);
-        small = λ k h. rw (totals .sum k h) (w .fits-at k h .small);
-      })
+  left-is k h = uncut _ _ _ _ (totals .beside-small .small k h) (totals .earlier-small .small k h) (totals .sum k h) (w .fits-at k h .small)
 
-  pub row-is : (old new : List ℕ) → length old ≡ length ts → length new ≡ length old → RowSummed bounds r q beside earlier old new → new ≡ otherRow net es xs bounds ts r q
-  unfolding otherRow otherPairs
-  row-is old new long kept summed =
-      let others : ℕ → ℕ = λ t. allPairs net es xs bounds t r (q - r) - (getD bounds q 0 - getD bounds r 0) in
-      ext-getD 0 new (map others ts) (kept ∙ long ∙ sym (length-map ts others))
-      (λ k h. summed .at k (omega arith) ∙ ap (λ (n : ℕ). n - (getD bounds q 0 - getD bounds r 0)) (totals .sum k (omega arith)) ∙ sym (map-at others ts k (omega arith)))
+  pub row-is : (n : ℕ) → n ≡ length ts → rowLeft bounds r q beside earlier n ≡ otherRow net es xs bounds ts r q
+  unfolding rowLeft otherRow
+  row-is n long =
+      let others : ℕ → ℕ = λ t. otherPairs net es xs bounds t r q in
+      sym (all-entries (left bounds beside earlier r q) (map others ts) 0 n (length-map ts others ∙ sym long)
+      (λ k h. map-at others ts k (omega arith) ∙ sym (left-is k (omega arith)) ∙ ap (left bounds beside earlier r q) {x = k} {y = 0 + k} (omega arith)))
 
 -- accepted thresholds
 pub steps-accepted : {ts : List ℕ} → ThresholdsAccepted ts → Steps ts

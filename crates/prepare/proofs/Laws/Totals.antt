@@ -10,7 +10,7 @@ use Rattle.model.specs.Limits.{maxEvents, maxPairs}
 use Rattle.model.specs.Network.{Network}
 use Rattle.prepare.proofs.Laws.RunPairs.{ready-to, ready-from, pairs-few, earlier-none, earlier-next, all-none, all-next}
 use Rattle.prepare.specs.RunPairs.{runPairs, earlierPairs, allPairs}
-use Rattle.prepare.specs.Totals.{Steps, ReadyAt, UpTo, AddedAt, EarlierAdded, Totalled}
+use Rattle.prepare.specs.Totals.{Steps, ReadyAt, UpTo, AddedAt, EarlierAdded, maxTotal, Totalled}
 
 -- fewer runs
 pub ready-part : {net : Network} {table es xs bounds ts : List ℕ} {r q : ℕ} → ReadyAt net table es xs bounds ts r q → (b a : ℕ) → r ≤ b → b ≤ a → a < q → ReadyAt net table es xs bounds ts b (suc a)
@@ -148,6 +148,6 @@ module _ {net : Network} {table es xs bounds ts : List ℕ} {r q : ℕ} (w : Rea
         let end : a ≡ q = omega (arith, so-far .high) in
         record {
           sum = λ k l. so-far .is k l ∙ ap (λ (n : ℕ). allPairs net es xs bounds (getD ts k 0) r (n - r)) end;
-          beside-small = beside-room 9007199254740992 (omega arith) b;
-          earlier-small = earlier-room 9007199254740992 (omega arith) e;
+          beside-small = beside-room maxTotal (omega arith) b;
+          earlier-small = earlier-room maxTotal (omega arith) e;
         }

@@ -1,6 +1,7 @@
 -- The numbers of the set's runs are stored, its pairs added up from them, and the row written.
 use Rattle.count_augmentation.proofs.Laws.Stored.{runs-storable}
-use Rattle.prepare.proofs.Laws.TotalRows.{zeros, row-fits, row-is}
+use mathlib.Core.Path.{_∙_}
+use Rattle.prepare.proofs.Laws.TotalRows.{zeros, row-is}
 use borrow.Author.Needs.{needs}
 use Rattle.count_augmentation.proofs.sets.set_row.Statement.{statement}
 use Rattle.count_augmentation.proofs.sets.set_row.Tie as tie
@@ -30,7 +31,7 @@ slice-aggregate-write-row-2 : tie.Need-slice-aggregate-write-row-2
 slice-aggregate-write-row-2 c = search needs
 
 write-row-requires : tie.Need-write-row-requires
-write-row-requires c κs = row-fits (c .before .before .before .before .before .before .before .before .before .before .before .before .before .before .before .before .before .before .before .before .before .before .before .before .before .before .before .before .pre .0) (c .before .before .before .before .before .add-all .ensures) (c .before .before .before .before .before .before .before .before .before .before .before .before .before .before .before .before .before .before .before .before .before .before .before .before .before .before .before .before .pre .1) _ (c .before .before .before .before .before .before .before .before .before .before .before .before .before .before .before .before .before .before .before .before .before .before .before .before .before .before .before .before .pre .4)
+write-row-requires c κs = search needs
 
 same-length : tie.Need-same-length
 same-length c = c .before .before .before .before .before .before .before .before .before .before .before .before .before .before .before .before .near-first .given
@@ -42,7 +43,7 @@ same-length-3 : tie.Need-same-length-3
 same-length-3 c = c .before .row .given
 
 returns : tie.Need-returns
-returns c = row-is (c .before .before .before .before .before .before .before .before .before .before .before .before .before .before .before .before .before .before .before .before .before .before .before .before .before .before .before .before .before .before .before .pre .0) (c .before .before .before .before .before .before .before .before .add-all .ensures) _ _ (c .before .before .before .before .before .before .before .before .before .before .before .before .before .before .before .before .before .before .before .before .before .before .before .before .before .before .before .before .before .before .before .pre .4) (c .before .row .given) (c .before .before .write-row .ensures)
+returns c = c .before .before .write-row .ensures ∙ row-is (c .before .before .before .before .before .before .before .before .before .before .before .before .before .before .before .before .before .before .before .before .before .before .before .before .before .before .before .before .before .before .before .pre .0) (c .before .before .before .before .before .before .before .before .add-all .ensures) _ (c .before .before .before .before .before .before .before .before .before .before .before .before .before .before .before .before .before .before .before .before .before .before .before .before .before .before .before .before .before .before .before .pre .4)
 
 pub set-row-spec : {M : Type 1} → statement M
 set-row-spec =
