@@ -1,33 +1,33 @@
 // The names of answer lists.
 use crate::show::word;
 
-pub const RANGE_QUERY: u32 = 0;
+pub(crate) const RANGE_QUERY: u32 = 0;
 
-pub const COUNT_AUGMENTATION: u32 = 1;
+pub(crate) const COUNT_AUGMENTATION: u32 = 1;
 
-pub const NEIGHBOR_SHARING: u32 = 2;
+pub(crate) const NEIGHBOR_SHARING: u32 = 2;
 
-pub const NEAR_FIRST: u32 = 3;
+pub(crate) const NEAR_FIRST: u32 = 3;
 
-pub const NEAR_SECOND: u32 = 4;
+pub(crate) const NEAR_SECOND: u32 = 4;
 
-pub const POSITIONS: u32 = 5;
+pub(crate) const POSITIONS: u32 = 5;
 
-pub const MOVES: u32 = 6;
+pub(crate) const MOVES: u32 = 6;
 
-pub const FIRST_NODES: u32 = 7;
+pub(crate) const FIRST_NODES: u32 = 7;
 
-pub const SECOND_NODES: u32 = 8;
+pub(crate) const SECOND_NODES: u32 = 8;
 
-pub const LENGTHS: u32 = 9;
+pub(crate) const LENGTHS: u32 = 9;
 
-pub const SETS: u32 = 10;
+pub(crate) const SETS: u32 = 10;
 
-pub const EDGES: u32 = 11;
+pub(crate) const EDGES: u32 = 11;
 
-pub const OFFSETS: u32 = 12;
+pub(crate) const OFFSETS: u32 = 12;
 
-pub const THRESHOLDS: u32 = 13;
+pub(crate) const THRESHOLDS: u32 = 13;
 
 fn of_counts(list: u32) {
     match list {

@@ -1,11 +1,13 @@
-// Printing distances and perimeter counts.
+// Printing what distances, perimeter counts and the readers answer.
+use crate::show::line_end;
+use crate::show::number;
+use crate::show::refusal;
+use crate::show::word;
 use between::BoundedLength;
 use between::Length;
-use cases::line_end;
-use cases::number;
-use cases::refusal;
-use cases::word;
+use network_reader::ReadNetwork;
 use perimeter::Counted;
+use reading::ReadList;
 
 pub(crate) fn counted(answer: Counted) {
     match answer {
@@ -29,6 +31,25 @@ pub(crate) fn bounded(answer: BoundedLength) {
         BoundedLength::Metres(n) => number(n as u64),
         BoundedLength::Beyond => word(b" beyond"),
         BoundedLength::Refused(n, place) => refusal(n, place),
+    }
+    line_end();
+}
+
+pub(crate) fn read_list(answer: ReadList) {
+    match answer {
+        ReadList::Read(n) => number(n as u64),
+        ReadList::Refused(n, place) => refusal(n, place),
+    }
+    line_end();
+}
+
+pub(crate) fn read_network(answer: ReadNetwork) {
+    match answer {
+        ReadNetwork::Read(nodes, edges) => {
+            number(nodes as u64);
+            number(edges as u64);
+        }
+        ReadNetwork::Refused(n, place) => refusal(n, place),
     }
     line_end();
 }

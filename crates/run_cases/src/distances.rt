@@ -1,6 +1,6 @@
 // Distances and perimeter counts.
-use crate::show;
-use cases::answer;
+use crate::answers;
+use crate::show::answer;
 use cases::filled;
 use cases::list;
 use model::value_at;
@@ -12,7 +12,7 @@ pub(crate) fn of_nodes(
     lengths: &[u32],
     lists: &[u32],
 ) {
-    show::length(between::node_distance(
+    answers::length(between::node_distance(
         nodes,
         firsts,
         seconds,
@@ -29,7 +29,7 @@ pub(crate) fn of_nodes_within(
     lengths: &[u32],
     lists: &[u32],
 ) {
-    show::bounded(between::bounded_node_distance(
+    answers::bounded(between::bounded_node_distance(
         nodes,
         firsts,
         seconds,
@@ -47,7 +47,7 @@ pub(crate) fn of_locations(
     lengths: &[u32],
     lists: &[u32],
 ) {
-    show::length(between::location_distance(
+    answers::length(between::location_distance(
         nodes,
         firsts,
         seconds,
@@ -66,7 +66,7 @@ pub(crate) fn perimeter(
     lengths: &[u32],
     lists: &[u32],
 ) {
-    show::counted(perimeter::perimeter_count(
+    answers::counted(perimeter::perimeter_count(
         nodes,
         firsts,
         seconds,

@@ -2,8 +2,8 @@
 use mathlib.Core.Path.{_≡_}
 use lib.ListN.{length}
 use borrow.Author.Needs.{needs}
-use Rattle.run_lists.proofs.cases.Statement.{statement}
-use Rattle.run_lists.proofs.cases.Tie as tie
+use Rattle.run_cases.proofs.cases.Statement.{statement}
+use Rattle.run_cases.proofs.cases.Tie as tie
 
 abbrev Inv-loop : tie.InvT-loop
 Inv-loop room₀ function₀ left₀ room function left = length room ≡ length room₀
@@ -23,8 +23,8 @@ same-length c = search needs
 returns : tie.Need-returns Inv-loop μ-loop
 returns c = search needs
 
-lists-requires : tie.Need-lists-requires Inv-loop μ-loop
-lists-requires c κs = search needs
+asked-requires : tie.Need-asked-requires Inv-loop μ-loop
+asked-requires c κs = search needs
 
 sub-left : tie.Need-sub-left Inv-loop μ-loop
 sub-left c = search needs
@@ -51,7 +51,7 @@ cases-spec =
     next-case-requires
     same-length
     returns
-    lists-requires
+    asked-requires
     sub-left
     loop-less
     loop-again

@@ -1,18 +1,18 @@
-// Printing words, numbers and lists.
+// Printing words, numbers, lists and verdicts.
 use crate::labels::label;
 use libc::STDOUT_FILENO;
 use model::Check;
 
-pub fn word(text: &[u8]) {
+pub(crate) fn word(text: &[u8]) {
     io::write_all(STDOUT_FILENO, text);
 }
 
-pub fn line_end() {
+pub(crate) fn line_end() {
     word(b"\n");
 }
 
 // A number behind a space.
-pub fn number(n: u64) {
+pub(crate) fn number(n: u64) {
     word(b" ");
     io::print_decimal(STDOUT_FILENO, n);
 }
@@ -22,7 +22,7 @@ fn entry(n: u32) {
 }
 
 // The number and the place of a refusal.
-pub fn refusal(n: u32, place: usize) {
+pub(crate) fn refusal(n: u32, place: usize) {
     word(b" refused");
     entry(n);
     number(place as u64);
@@ -36,13 +36,13 @@ fn check(verdict: Check) {
 }
 
 // A verdict, behind the name of what was checked.
-pub fn verdict(verdict: Check) {
+pub(crate) fn verdict(verdict: Check) {
     check(verdict);
     line_end();
 }
 
 // A list, behind a colon, and the line end.
-pub fn entries(numbers: &[u32]) {
+pub(crate) fn entries(numbers: &[u32]) {
     word(b":");
     let mut k = 0;
     while k < numbers.len() {
@@ -53,19 +53,19 @@ pub fn entries(numbers: &[u32]) {
 }
 
 // A list behind its name.
-pub fn named(list: u32, numbers: &[u32]) {
+pub(crate) fn named(list: u32, numbers: &[u32]) {
     label(list);
     entries(numbers);
 }
 
 // A verdict, and the answer list that goes with it.
-pub fn answer(verdict: Check, numbers: &[u32]) {
+pub(crate) fn answer(verdict: Check, numbers: &[u32]) {
     check(verdict);
     entries(numbers);
 }
 
 // The same behind the name of the list.
-pub fn named_answer(list: u32, verdict: Check, numbers: &[u32]) {
+pub(crate) fn named_answer(list: u32, verdict: Check, numbers: &[u32]) {
     label(list);
     answer(verdict, numbers);
 }

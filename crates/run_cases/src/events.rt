@@ -1,9 +1,10 @@
 // Laying out, and the events on an edge.
+use crate::labels;
+use crate::show;
+use crate::show::named;
+use crate::show::verdict;
 use cases::filled;
-use cases::labels;
 use cases::list;
-use cases::named;
-use cases::verdict;
 use model::value_at;
 
 fn lay_out(edges: &mut [u32], offsets: &mut [u32]) {
@@ -36,13 +37,13 @@ pub(crate) fn stretch(nodes: u32, firsts: &[u32], seconds: &[u32], lengths: &[u3
         &mut number,
         &mut place,
     );
-    cases::entries(found);
+    show::entries(found);
     told(number, place);
 }
 
 fn told(number: u32, place: usize) {
-    cases::word(b"number and place:");
-    cases::number(number as u64);
-    cases::number(place as u64);
-    cases::line_end();
+    show::word(b"number and place:");
+    show::number(number as u64);
+    show::number(place as u64);
+    show::line_end();
 }

@@ -1,25 +1,29 @@
 // Functions over lists with known answers: the checks, laying out, the events on an edge, distances, perimeter counts, the three methods,
 // stored numbers, cursors and all of them at once, each refusal number that lists can meet among them. The cases stand in stdin, as the
 // crate `cases` reads them. The first list of a case holds lone numbers, and the last ones are answer lists: what stands in them shows what
-// was not written. A new function is an arm of `asked` here, or of the one in networks, and a section of stdin.
+// was not written. Functions over texts: the three readers, and the report, whose fourth text is what the list of bytes holds before.
+mod answers;
 mod checks;
 mod counts;
 mod cursors;
 mod distances;
 mod events;
+mod labels;
 mod networks;
+mod readers;
+mod reports;
 mod show;
 
+use crate::show::verdict;
 use cases::list;
 use cases::next_case;
 use cases::numbers;
-use cases::verdict;
 
 // There are not so many cases.
 const MANY: u32 = 1000;
 
-// What the function of a number says of a case.
-fn asked(function: u32, lists: &[u32]) {
+// What the function of a number says of lists.
+fn on_lists(function: u32, lists: &[u32]) {
     match function {
         14 => verdict(validate::check_thresholds(list(lists, 1))),
         15 => events::laid_out(lists),
@@ -33,7 +37,16 @@ fn asked(function: u32, lists: &[u32]) {
 
 fn lists(function: u32, room: &mut [u32]) {
     let read = numbers(room);
-    asked(function, read);
+    on_lists(function, read);
+}
+
+// What the function of a number says of a case.
+fn asked(function: u32, room: &mut [u32]) {
+    match function {
+        20..=22 => readers::asked(function, room),
+        23 => reports::asked(room),
+        _ => lists(function, room),
+    }
 }
 
 fn cases(room: &mut [u32]) {
@@ -44,7 +57,7 @@ fn cases(room: &mut [u32]) {
         if function == 0 {
             return;
         }
-        lists(function, room);
+        asked(function, room);
         left -= 1;
     }
 }

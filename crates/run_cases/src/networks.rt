@@ -2,8 +2,8 @@
 use crate::checks;
 use crate::distances;
 use crate::events;
+use crate::show::verdict;
 use cases::list;
-use cases::verdict;
 use model::value_at;
 
 fn on_network(

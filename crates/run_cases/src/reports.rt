@@ -1,8 +1,9 @@
 // Reports over three texts.
-use cases::line_end;
-use cases::refusal;
+use crate::show::line_end;
+use crate::show::refusal;
+use crate::show::word;
+use cases::numbers;
 use cases::text;
-use cases::word;
 use printing::Printed;
 
 // One byte more than a text may have, and the end of its line.
@@ -44,10 +45,16 @@ fn over_texts(network: &mut [u8], reports: &mut [u8], thresholds: &mut [u8], out
     over(network, reports, thresholds, out);
 }
 
-pub(crate) fn report() {
+fn report() {
     let mut network = [0u8; TEXT];
     let mut reports = [0u8; TEXT];
     let mut thresholds = [0u8; TEXT];
     let mut out = [0u8; report::REPORT_ROOM + 1];
     over_texts(&mut network, &mut reports, &mut thresholds, &mut out);
+}
+
+// What the report says of a case. It has no lists: what is left to read is the end of the case.
+pub(crate) fn asked(room: &mut [u32]) {
+    report();
+    numbers(room);
 }

@@ -1,6 +1,6 @@
 // The checks of lists that begin with a network.
+use crate::show::verdict;
 use cases::list;
-use cases::verdict;
 use model::value_at;
 
 // Two nodes, at place 0.

@@ -1,10 +1,10 @@
 // The three methods, each by itself; stored numbers; the three methods and the cursors together.
+use crate::labels;
+use crate::show::line_end;
+use crate::show::named;
+use crate::show::named_answer;
 use cases::filled;
-use cases::labels;
-use cases::line_end;
 use cases::list;
-use cases::named;
-use cases::named_answer;
 use model::Check;
 use model::value_at;
 

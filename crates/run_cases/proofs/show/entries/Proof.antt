@@ -2,8 +2,8 @@
 use Prim.Native.Nat.{_-_}
 use lib.ListN.{length}
 use borrow.Author.Needs.{needs}
-use Rattle.cases.proofs.show.entries.Statement.{statement}
-use Rattle.cases.proofs.show.entries.Tie as tie
+use Rattle.run_cases.proofs.show.entries.Statement.{statement}
+use Rattle.run_cases.proofs.show.entries.Tie as tie
 
 abbrev Inv-loop : tie.InvT-loop
 Inv-loop numbers k₀ k = Unit {0}
