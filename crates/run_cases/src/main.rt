@@ -1,7 +1,10 @@
-// Functions over lists with known answers: the checks, laying out, the events on an edge, distances, perimeter counts, the three methods,
-// stored numbers, cursors and all of them at once, each refusal number that lists can meet among them. The cases stand in stdin, as the
-// crate `cases` reads them. The first list of a case holds lone numbers, and the last ones are answer lists: what stands in them shows what
-// was not written. Functions over texts: the three readers, and the report, whose fourth text is what the list of bytes holds before.
+// This program runs cases with known answers. Those over lists are about the checks, laying out, the events on an edge, distances,
+// perimeter counts, the three methods, stored numbers, cursors and all of them at once, and meet each refusal number that lists can meet.
+// Those over texts are about the three readers and the report: document 01's full run, empty texts, texts at the limits, and each refusal
+// number at several places. The cases stand in stdin, as the crate `cases` reads them, texts first, then lists. The first list of a case
+// holds lone numbers, and the last ones are answer lists: what stands in them shows what was not written. A report has no lists; its fourth
+// text is what the list of bytes holds before. A new function is an arm of `asked` or `on_lists` here, of `on_network` in networks or of
+// `on_text` in readers, and a section of stdin.
 mod answers;
 mod checks;
 mod counts;
