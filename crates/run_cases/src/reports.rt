@@ -25,16 +25,12 @@ fn refused(number: u32, place: usize, out: &[u8]) {
     line_end();
 }
 
-fn printed(answer: Printed, out: &[u8]) {
-    match answer {
+fn over(network: &[u8], reports: &[u8], thresholds: &[u8], out: &mut [u8]) {
+    line_end();
+    match report::report(network, reports, thresholds, out) {
         Printed::Bytes(n) => front(n, out),
         Printed::Refused(number, place) => refused(number, place, out),
     }
-}
-
-fn over(network: &[u8], reports: &[u8], thresholds: &[u8], out: &mut [u8]) {
-    line_end();
-    printed(report::report(network, reports, thresholds, out), out);
 }
 
 fn over_texts(network: &mut [u8], reports: &mut [u8], thresholds: &mut [u8], out: &mut [u8]) {
