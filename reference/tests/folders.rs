@@ -117,6 +117,46 @@ fn each_refusal() {
     }
 }
 
+/// The bytes of a line of known.txt: `\r` and `\n` stand for a carriage return
+/// and a line feed, `\60001xc` for 60,001 times c.
+fn unescaped(line: &str) -> Vec<u8> {
+    let mut parts = line.split('\\');
+    let mut bytes = parts.next().unwrap_or("").as_bytes().to_vec();
+    for part in parts {
+        let (kind, behind) = part.split_at(1);
+        let (meant, rest) = match kind {
+            "r" => (vec![b'\r'], behind),
+            "n" => (vec![b'\n'], behind),
+            _ => {
+                let (times, repeated) = part.split_once('x').expect("a number of times");
+                let (byte, rest) = repeated.split_at(1);
+                (byte.repeat(times.parse().expect("a number")).into_bytes(), rest)
+            }
+        };
+        bytes.extend(meant);
+        bytes.extend(rest.bytes());
+    }
+    bytes
+}
+
+/// Folders with what is printed for them written down: document 01's full run and
+/// its cases that are run only among them. A case is its name, three texts and
+/// what is printed, each in a line of its own; an empty line follows.
+#[test]
+fn known_folders() {
+    let Some(proved) = program() else { return };
+    let folder = folder("known_folders");
+    let lines: Vec<&str> = include_str!("folders/known.txt").lines().collect();
+    let cases: Vec<&[&str]> = lines.chunks(6).collect();
+    assert_eq!(cases.len(), 21);
+    for case in cases {
+        let [name, network, reports, thresholds, printed, ..] = case else { panic!("{case:?}") };
+        let files = [network, reports, thresholds].map(|line| Text(unescaped(line)));
+        let told = compare(&proved, &folder, &files);
+        assert_eq!(told.into_bytes(), unescaped(printed), "{name}");
+    }
+}
+
 /// Sizes on both sides of each limit.
 #[test]
 fn limits() {

@@ -1,10 +1,9 @@
 // This program runs cases with known answers. Those over lists are about the checks, laying out, the events on an edge, distances,
 // perimeter counts, the three methods, stored numbers, cursors and all of them at once, and meet each refusal number that lists can meet.
-// Those over texts are about the three readers and the report: document 01's full run, empty texts, texts at the limits, and each refusal
-// number at several places. The cases stand in stdin, as the crate `cases` reads them, texts first, then lists. The first list of a case
-// holds lone numbers, and the last ones are answer lists: what stands in them shows what was not written. A report has no lists; its fourth
-// text is what the list of bytes holds before. A new function is an arm of `asked` or `on_lists` here, of `on_network` in networks or of
-// `on_text` in readers, and a section of stdin.
+// Those over texts are about the three readers, with each refusal number at several places, and about the line of a refusal. The cases
+// stand in stdin, as the crate `cases` reads them, texts first, then lists. The first list of a case holds lone numbers, and the last ones
+// are answer lists: what stands in them shows what was not written. A new function is an arm of `asked` or `on_lists` here, of `on_network`
+// in networks or of `on_text` in readers, and a section of stdin.
 mod answers;
 mod checks;
 mod counts;
@@ -13,8 +12,8 @@ mod distances;
 mod events;
 mod labels;
 mod networks;
+mod printed;
 mod readers;
-mod reports;
 mod show;
 
 use crate::show::verdict;
@@ -47,7 +46,7 @@ fn lists(function: u32, room: &mut [u32]) {
 fn asked(function: u32, room: &mut [u32]) {
     match function {
         20..=22 => readers::asked(function, room),
-        23 => reports::asked(room),
+        23 => printed::asked(room),
         _ => lists(function, room),
     }
 }

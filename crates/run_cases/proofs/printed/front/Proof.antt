@@ -3,8 +3,8 @@ use mathlib.Core.Path.{sym}
 use native.Mathlib.Omega.{arith}
 use lib.Seq.{length-take-le}
 use borrow.Author.Needs.{needs}
-use Rattle.run_cases.proofs.reports.front.Statement.{statement}
-use Rattle.run_cases.proofs.reports.front.Tie as tie
+use Rattle.run_cases.proofs.printed.front.Statement.{statement}
+use Rattle.run_cases.proofs.printed.front.Tie as tie
 
 slice-aggregate-word : tie.Need-slice-aggregate-word
 slice-aggregate-word c = sym (length-take-le _ _ (omega arith))
