@@ -4,7 +4,7 @@ mod files;
 ghost use Prim.Native.Nat.{_≤_};
 ghost use lib.ListN.{length};
 ghost use Rattle.report.specs.Report.{reportRoom};
-ghost use Rattle.kcount.specs.Held.{Held, HeldOfFronts};
+ghost use Rattle.kcount.specs.Held.{Held, HeldOfFronts, RoomToRead};
 use printing::Printed;
 
 // One byte more than a text may have, so that a longer one is refused and not cut off.
@@ -17,7 +17,7 @@ fn fill(network: &[u8], reports: &[u8], thresholds: &[u8], out: &mut [u8]) -> us
 {
     match report::report(network, reports, thresholds, out) {
         Printed::Bytes(count) => count,
-        // There is room enough.
+        // Never: there is room enough.
         Printed::Refused(_, _) => 0,
     }
 }
@@ -25,7 +25,7 @@ fn fill(network: &[u8], reports: &[u8], thresholds: &[u8], out: &mut [u8]) -> us
 // Reads the three files, each into its list, and fills the last list with the report over what was read. That this is what the files
 // hold is not promised: no contract of a system call says what is read.
 fn run(network: &mut [u8], reports: &mut [u8], thresholds: &mut [u8], out: &mut [u8]) -> usize
-    requires { ⌜ reportRoom ≤ length (now out) ⌝ }
+    requires { ⌜ RoomToRead (now network) (now reports) (now thresholds) (now out) ⌝ }
     ensures { λ r. ⌜ HeldOfFronts (now (network .exit)) (now (reports .exit)) (now (thresholds .exit)) r (now (out .exit)) ⌝ }
 {
     let a = files::read(b"network.gr", network);

@@ -74,7 +74,8 @@ locationDistance net p q = least (routes net (ends net p) (ends net q)) (stretch
 abbrev pub IsLocationDistance : Network → Location → Location → Distance → Type 0
 IsLocationDistance net p q d = IsLeast (LocationWalk net p q) d
 
--- the same by both gaps of each location to the ends of its edge, on a node too: what the counting methods use.
+-- the distance of two edges with an offset each, where every offset, also one at a node, has a gap to both ends of its edge: what the
+-- counting methods use.
 -- Law (proofs/Laws/Location, `edge-distance`): where every edge ends at nodes, it is the distance of the
 -- locations at the two offsets.
 unfoldable pub edgeDistance : Network → ℕ → ℕ → ℕ → ℕ → Distance

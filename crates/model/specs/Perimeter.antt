@@ -1,5 +1,5 @@
--- The perimeter count at a centre and a radius (document 000, section 3.1): how many locations lie at exactly that distance; and what it
--- counts.
+-- The perimeter count at a centre and a radius (document 000, section 3.1): how many locations lie at exactly that distance; and the
+-- statement that it is the number of different locations there.
 use mathlib.Core.List.{List, [], _++_, map, List·Memᴰ}
 use mathlib.Core.Path.{_≡_}
 use Prim.Native.Nat.{ℕ, zero, suc, pred}

@@ -33,7 +33,8 @@ startOf sets s = sumBelow s (setSize sets)
 unfoldable pub greatest : List ℕ → ℕ
 greatest ts = getD ts (pred (length ts)) 0
 
--- runs: places bound 0 = 0 < bound 1 < .. < bound r = n that cut the events so that each run is all that one set has on one edge;
+-- runs: R of them, by places 0 = bound 0 < bound 1 < .. < bound R = n that cut the events so that each run is all that one set has on
+-- one edge;
 -- the runs of set s are those from number setRuns s on, below setRuns (s + 1)
 pub record Runs (sets edges bounds setRuns : List ℕ) (n : ℕ) : Type 0 where
   pub begins : getD setRuns 0 0 ≡ 0
@@ -57,7 +58,8 @@ pub record Prepared (net : Network) (sets es xs ts edges offsets bounds setRuns 
   pub from-first : (k v : ℕ) → k < length es → IsNode net v → entry net table (first net (pred (getD es k 0))) v ≡ code (boundedDistance net (greatest ts) (first net (pred (getD es k 0))) v)
   pub from-second : (k v : ℕ) → k < length es → IsNode net v → entry net table (second net (pred (getD es k 0))) v ≡ code (boundedDistance net (greatest ts) (second net (pred (getD es k 0))) v)
 
--- the promise of preparing: its verdict, and on acceptance what the five lists hold then
+-- the promise of preparing: its verdict, and on acceptance what the five lists hold then; what is left as it was is said by
+-- LeftOnRefusal and SurplusKept
 pub record Ready (net : Network) (sets es xs ts : List ℕ) (room : ℕ) (r : Check) (edges offsets bounds setRuns table : List ℕ) : Type 0 where
   pub verdict : r ≡ countsCheck net sets es xs ts room
   pub prepared : countsCheck net sets es xs ts room ≡ Accepted → Prepared net sets es xs ts edges offsets bounds setRuns table
@@ -70,7 +72,7 @@ pub record LeftOnRefusal (r : Check) (edges offsets bounds setRuns table edges�
 pub record KeptFrom (n : ℕ) (old new : List ℕ) : Type 0 where
   pub kept : drop n new ≡ drop n old
 
--- what stands behind the events, behind the end of the last run and behind the last set's end
+-- left as it was: what stands behind the events, behind the end of the last run and behind the last set's end
 pub record LaidKept (sets es edges offsets bounds setRuns edges′ offsets′ bounds′ setRuns′ : List ℕ) : Type 0 where
   pub edges-kept : KeptFrom (length es) edges edges′
   pub offsets-kept : KeptFrom (length es) offsets offsets′
@@ -82,7 +84,7 @@ pub record NoEnd (net : Network) (es : List ℕ) (u : ℕ) : Type 0 where
   pub no-first : (k : ℕ) → k < length es → first net (pred (getD es k 0)) ≡ u → ⊥
   pub no-second : (k : ℕ) → k < length es → second net (pred (getD es k 0)) ≡ u → ⊥
 
--- what stands behind the square of nodes, and the rows of nodes at which no event's edge ends
+-- left as they were: what stands behind the square of nodes, and the rows of nodes at which no event's edge ends
 pub record TableKept (net : Network) (es table table′ : List ℕ) : Type 0 where
   pub behind : KeptFrom (net .nodes * net .nodes) table table′
   pub other-rows : (u v : ℕ) → IsNode net u → IsNode net v → NoEnd net es u → entry net table′ u v ≡ entry net table u v

@@ -12,7 +12,7 @@ use Rattle.text.specs.NextLine.{csvLine}
 use Rattle.text.specs.declared.lines.Line.{Line}
 use Rattle.text.proofs.Laws.Lines.{csv-next}
 use Rattle.text.specs.Reading.{Step, taken, refusedAt, readLines, require, next, noHeader}
-use Rattle.reading.specs.Header.{isHeaded, headerCheck, headerAnswer, headerOf}
+use Rattle.reading.specs.Header.{isHeaded, headerCheck, headerOf, headerVerdict, HeaderRead}
 use Rattle.reading.specs.declared.header.Header.{Header}
 use Rattle.reading.specs.declared.header.Header.the-variants.{RowsFrom, Missing}
 use Rattle.reading.proofs.Progress.{rest, rest-is}
@@ -36,13 +36,13 @@ pub record RowsAt (header bytes : List ℕ) (n : ℕ) : Type 0 where
 
 -- the answer by cases
 by-header : (header bytes : List ℕ) {headed : Bool} → isHeaded header (csvLines bytes) ≡ headed → headerOf header bytes ≡ cond headed (RowsFrom (csvLine bytes .next)) Missing
-unfolding headerOf headerAnswer headerCheck unless
+unfolding headerOf
 by-header header bytes {headed = true} e = rw e
 by-header header bytes {headed = false} e = rw e
 
 -- a text with no byte has no header
 pub no-text : (header bytes : List ℕ) → length bytes ≡ 0 → Missing ≡ headerOf header bytes
-unfolding csvLines isHeaded headerOf headerAnswer headerCheck unless
+unfolding csvLines isHeaded headerOf
 no-text header [] e = refl
 no-text header (b ∷ bytes) e = absurd (omega arith)
 
@@ -58,6 +58,15 @@ module _ (header bytes : List ℕ) {line : Line} (some : 1 ≤ length bytes) (is
   pub header-found : sameBytes (take (line .end) bytes) header ≡ true → RowsFrom (line .next) ≡ headerOf header bytes
   header-found e = ap (λ (l : Line). RowsFrom (l .next)) is ∙ sym (by-header header bytes (headed-is ∙ e))
 
+-- the verdict that goes with the answer
+pub header-read : (header bytes : List ℕ) {r : Header} → r ≡ headerOf header bytes → HeaderRead header bytes r
+unfolding headerVerdict headerCheck unless
+header-read header bytes {r} answer = go (isHeaded header (csvLines bytes)) refl
+  where
+    go : (headed : Bool) → isHeaded header (csvLines bytes) ≡ headed → HeaderRead header bytes r
+    go true e = record { answer = answer; verdict = rw (answer ∙ by-header header bytes e, e) }
+    go false e = record { answer = answer; verdict = rw (answer ∙ by-header header bytes e, e) }
+
 -- a headed text has a byte, and the lines behind its first one are the rest
 some-bytes : (header bytes : List ℕ) → isHeaded header (csvLines bytes) ≡ true → 1 ≤ length bytes
 unfolding csvLines isHeaded
@@ -69,22 +78,22 @@ unfolding behindFirst
 rest-behind e = rw e
 
 -- What a caller learns of a header that was found, and of one that is missing.
-pub rows-found : {header bytes : List ℕ} {r : Header} {n : ℕ} → r ≡ headerOf header bytes → r ≡ RowsFrom n → RowsAt header bytes n
-rows-found {header} {bytes} {r} {n} answer found = go (isHeaded header (csvLines bytes)) refl
+pub rows-found : {header bytes : List ℕ} {r : Header} {n : ℕ} → HeaderRead header bytes r → r ≡ RowsFrom n → RowsAt header bytes n
+rows-found {header} {bytes} {r} {n} read found = go (isHeaded header (csvLines bytes)) refl
   where
     go : (headed : Bool) → isHeaded header (csvLines bytes) ≡ headed → RowsAt header bytes n
-    go false e = absurd (let z : _≡_ {A = ℕ} 0 1 = cc (by-header header bytes e) in omega arith)
+    go false e = absurd (let z : _≡_ {A = ℕ} 0 1 = cc (read .answer, by-header header bytes e) in omega arith)
     go true e =
-        let at : n ≡ csvLine bytes .next = cc (by-header header bytes e) in
+        let at : n ≡ csvLine bytes .next = cc (read .answer, by-header header bytes e) in
         let line = csv-next {rest = bytes} refl in
         rw at (record { headed = e; within = line .inside; rows = sym (rest-behind (line .parts (some-bytes header bytes e))) })
 
-pub none-found : (header bytes : List ℕ) {r : Header} → r ≡ headerOf header bytes → r ≡ Missing → isHeaded header (csvLines bytes) ≡ false
-none-found header bytes {r} answer missing = go (isHeaded header (csvLines bytes)) refl
+pub none-found : (header bytes : List ℕ) {r : Header} → HeaderRead header bytes r → r ≡ Missing → isHeaded header (csvLines bytes) ≡ false
+none-found header bytes {r} read missing = go (isHeaded header (csvLines bytes)) refl
   where
     go : (headed : Bool) → isHeaded header (csvLines bytes) ≡ headed → headed ≡ false
     go false e = refl
-    go true e = absurd (let z : _≡_ {A = ℕ} 0 1 = cc (by-header header bytes e) in omega arith)
+    go true e = absurd (let z : _≡_ {A = ℕ} 0 1 = cc (read .answer, by-header header bytes e) in omega arith)
 
 -- A reading whose first step asks for the header.
 module _ {State : Type 0} (header : List ℕ) (step : State → List ℕ → Step State) (start first : State) (asks : (line : List ℕ) → step start line ≡ require (sameBytes line header) noHeader (taken first)) where

@@ -23,7 +23,7 @@ unfoldable pub listIn : {A : Type 0} → Outcome (List A) → List A
 listIn (read xs) = xs
 listIn (refusedAt number place) = []
 
--- the answer with a check: how many entries were read, or the refusal
+-- the answer that belongs to a check: how many entries were read, or the refusal
 unfoldable pub listAnswer : Check → ℕ → ReadList
 listAnswer Accepted n = list-answer.Read n
 listAnswer (Refused number place) n = list-answer.Refused number place

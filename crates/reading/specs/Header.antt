@@ -1,6 +1,7 @@
 -- The header of a CSV text, and the rows behind it.
-use mathlib.Core.Bool.{Bool, false}
+use mathlib.Core.Bool.{Bool, false, cond}
 use mathlib.Core.List.{List, [], _∷_}
+use mathlib.Core.Path.{_≡_}
 use Prim.Native.Nat.{ℕ}
 use Rattle.model.specs.Refusal.{unless}
 use Rattle.model.specs.declared.check.Check.{Check}
@@ -17,15 +18,20 @@ unfoldable pub isHeaded : List ℕ → List (List ℕ) → Bool
 isHeaded header [] = false
 isHeaded header (line ∷ more) = sameBytes line header
 
--- 4: the first line is not the header, at line 1
+-- 4, at line 1: the first line is not the header, or there is none
 unfoldable pub headerCheck : List ℕ → List ℕ → Check
 headerCheck header bytes = unless (isHeaded header (csvLines bytes)) noHeader 1
 
--- the answer with a check: the index at which the rows begin, or that the header is missing
-unfoldable pub headerAnswer : Check → ℕ → Header
-headerAnswer Accepted start = RowsFrom start
-headerAnswer (Refused number place) start = Missing
-
--- the rows begin with the second line
+-- the index at which the rows begin, which is that of the second line; or that the header is missing
 unfoldable pub headerOf : List ℕ → List ℕ → Header
-headerOf header bytes = headerAnswer (headerCheck header bytes) (csvLine bytes .next)
+headerOf header bytes = cond (isHeaded header (csvLines bytes)) (RowsFrom (csvLine bytes .next)) Missing
+
+-- 01's verdict in each case: accepted, or 4 at line 1
+unfoldable pub headerVerdict : Header → Check
+headerVerdict (RowsFrom start) = Accepted
+headerVerdict Missing = Refused noHeader 1
+
+-- the promise: the answer, and its verdict
+pub record HeaderRead (header bytes : List ℕ) (r : Header) : Type 0 where
+  pub answer : r ≡ headerOf header bytes
+  pub verdict : headerVerdict r ≡ headerCheck header bytes

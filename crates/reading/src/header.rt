@@ -1,6 +1,5 @@
 // The header of a CSV text.
-ghost use mathlib.Core.Path.{_≡_};
-ghost use Rattle.reading.specs.Header.{headerOf};
+ghost use Rattle.reading.specs.Header.{HeaderRead};
 
 pub enum Header {
     // The byte at which the rows begin.
@@ -10,7 +9,7 @@ pub enum Header {
 
 // Whether the first line is the header (4 where it is not), and where the rows begin.
 pub fn read_header(header: &[u8], text: &[u8]) -> Header
-    ensures { λ r. ⌜ r ≡ headerOf (now (header .entry)) (now (text .entry)) ⌝ }
+    ensures { λ r. ⌜ HeaderRead (now (header .entry)) (now (text .entry)) r ⌝ }
 {
     if text.len() == 0 {
         return Header::Missing;

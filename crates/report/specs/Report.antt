@@ -36,11 +36,12 @@ unfoldable pub lineOr : Check → List ℕ → List ℕ → List ℕ
 lineOr Accepted file more = more
 lineOr (Refused number place) file more = refusalLine file number place
 
--- a row for each threshold, under the line of names
+-- a row for each threshold
 unfoldable pub tableRows : (ℕ → ℕ) → (ℕ → Envelope) → List ℕ → List ℕ
 tableRows count span [] = []
 tableRows count span (t ∷ ts) = row t (count t) (span t) ++ tableRows count span ts
 
+-- the line of names, then the rows
 unfoldable pub countsTable : Network → List ℕ → List Event → List ℕ → List ℕ
 countsTable net sets es ts = header ++ (lineEnd ++ tableRows (observed net sets es) (envelope net sets es) ts)
 
@@ -58,7 +59,7 @@ bytesOverNetwork net reports thresholds = lineOr (eventFileCheck net reports) re
 unfoldable pub reportBytes : List ℕ → List ℕ → List ℕ → List ℕ
 reportBytes network reports thresholds = lineOr (networkFileCheck network) networkName (bytesOverNetwork (textNetwork network) reports thresholds)
 
--- room that always suffices: the header, and for each threshold that there may be a row of four numbers of at most 20 digits, three
+-- room that always suffices: the line of names with its end, and for each threshold that there may be a row of four numbers of at most 20 digits, three
 -- commas and a line end
 abbrev pub reportRoom : ℕ
 reportRoom = 35 + maxThresholds * 85

@@ -9,6 +9,6 @@ unfoldable pub lastDigits : ℕ → ℕ → List ℕ
 lastDigits zero n = []
 lastDigits (suc more) n = cond (ltb n 10) ((48 + n) ∷ []) (lastDigits more (n / 10) ++ ((48 + n % 10) ∷ []))
 
--- a number of at most 20 digits, as every number of 64 bits is
+-- the decimal digits of a number that has at most 20 of them, as every number of 64 bits does
 unfoldable pub digits : ℕ → List ℕ
 digits n = lastDigits 20 n

@@ -34,7 +34,7 @@ sameBytes (b ∷ bs) (d ∷ ds) = eqb b d && sameBytes bs ds
 unfoldable pub beginsWith : List ℕ → List ℕ → Bool
 beginsWith bytes line = sameBytes (take (length bytes) line) bytes
 
--- numbers and nothing else; Nothing where a field is no number
+-- three numbers, two or one; `Nothing` where one of them is no number
 unfoldable pub ofThree : Number → Number → Number → Numbers
 ofThree NoNumber b c = Nothing
 ofThree (Value x) NoNumber c = Nothing
@@ -50,7 +50,7 @@ unfoldable pub ofOne : Number → Numbers
 ofOne NoNumber = Nothing
 ofOne (Value x) = One x
 
--- one, two or three fields that are numbers
+-- the numbers of a line of one, two or three fields; `Nothing` where a field is no number, or there are more fields
 unfoldable pub numbersOf : List (List ℕ) → Numbers
 numbersOf [] = Nothing
 numbersOf (a ∷ []) = ofOne (numberOf a)

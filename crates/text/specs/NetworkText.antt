@@ -15,7 +15,7 @@ use Rattle.text.specs.declared.network_line.NetworkLine.{NetworkLine}
 use Rattle.text.specs.declared.network_line.NetworkLine.the-variants.{Remark, Problem, Arc, Other}
 use Rattle.text.specs.Reading.{Step, taken, refused, Outcome, read, refusedAt, readLines, require, noForm, misplaced, notTurned, wrongArcs}
 
--- a line: a remark (`c` alone, or `c` and a space and anything), `p sp N M`, `a U V W`, or none of these
+-- two numbers make a `p` line, three an `a` line
 unfoldable pub problemOf : Numbers → NetworkLine
 problemOf Nothing = Other
 problemOf (One x) = Other
@@ -28,14 +28,24 @@ arcOf (One x) = Other
 arcOf (Two x y) = Other
 arcOf (Three x y z) = Arc x y z
 
--- `c` is byte 99, `p sp ` the bytes 112 32 115 112 32, `a ` the bytes 97 32
+-- what lines begin with: remarks with `c`, the other two with `p sp ` and `a `
+abbrev pub remarkMark : ℕ
+remarkMark = 99
+
+abbrev pub problemMark : List ℕ
+problemMark = 112 ∷ 32 ∷ 115 ∷ 112 ∷ 32 ∷ []
+
+abbrev pub arcMark : List ℕ
+arcMark = 97 ∷ 32 ∷ []
+
+-- a line: a remark (`c` alone, or `c` and a space and anything), `p sp N M`, `a U V W`, or none of these
 unfoldable pub networkLine : List ℕ → NetworkLine
 networkLine line =
-    cond (sameBytes line (99 ∷ []) || beginsWith (99 ∷ 32 ∷ []) line)
+    cond (sameBytes line (remarkMark ∷ []) || beginsWith (remarkMark ∷ space ∷ []) line)
     Remark
-    (cond (beginsWith (112 ∷ 32 ∷ 115 ∷ 112 ∷ 32 ∷ []) line)
+    (cond (beginsWith problemMark line)
     (problemOf (numbersOf (fields space (drop 5 line))))
-    (cond (beginsWith (97 ∷ 32 ∷ []) line) (arcOf (numbersOf (fields space (drop 2 line)))) Other))
+    (cond (beginsWith arcMark line) (arcOf (numbersOf (fields space (drop 2 line)))) Other))
 
 pub record ArcRead : Type 0 where
   pub from : ℕ

@@ -26,7 +26,8 @@ unfoldable pub readLines : {State : Type 0} → (State → List ℕ → Step Sta
 readLines step place s [] = read s
 readLines step place s (line ∷ more) = next (step s line) place (λ s′. readLines step (suc place) s′ more)
 
--- the first of the numbers whose test fails decides for a line
+-- one test of a line: where it fails the line is refused with this number. Tests follow each other by rising number, so that the lowest
+-- decides
 unfoldable pub require : {State : Type 0} → Bool → ℕ → Step State → Step State
 require good number onward = cond good onward (refused number)
 

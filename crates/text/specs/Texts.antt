@@ -1,5 +1,5 @@
--- The texts of given lists, byte by byte (01, Texts): a number is its decimal digits, and every line has its end, which the last one may
--- lack.
+-- The texts of given lists within the limits, byte by byte (01, Texts): a number is its decimal digits, and every line has its end, which
+-- the last one may lack.
 use mathlib.Core.Bool.{Bool, true, cond, _&&_, not}
 use mathlib.Core.List.{List, [], _∷_, _++_, map}
 use mathlib.Core.Path.{_≡_}
@@ -10,7 +10,7 @@ use Rattle.text.specs.Digits.{digits}
 use Rattle.text.specs.EventText.{Row, eventHeader}
 use Rattle.text.specs.Fields.{comma, space}
 use Rattle.text.specs.Lines.{lineFeed, lineEnd}
-use Rattle.text.specs.NetworkText.{ArcRead, arcsOf}
+use Rattle.text.specs.NetworkText.{remarkMark, problemMark, arcMark, ArcRead, arcsOf}
 use Rattle.text.specs.ThresholdText.{thresholdHeader}
 
 -- fields with a separator between them
@@ -43,11 +43,11 @@ eventText closed rows = joined lineEnd closed (eventHeader ∷ map rowLine rows)
 
 -- `p sp N M`
 unfoldable pub problemLine : ℕ → ℕ → List ℕ
-problemLine nodes arcs = 112 ∷ 32 ∷ 115 ∷ 112 ∷ 32 ∷ numbered space (nodes ∷ arcs ∷ [])
+problemLine nodes arcs = problemMark ++ numbered space (nodes ∷ arcs ∷ [])
 
 -- `a U V W`
 unfoldable pub arcLine : ArcRead → List ℕ
-arcLine a = 97 ∷ 32 ∷ numbered space (a .from ∷ a .to ∷ a .weight ∷ [])
+arcLine a = arcMark ++ numbered space (a .from ∷ a .to ∷ a .weight ∷ [])
 
 -- the arcs of a network
 unfoldable pub networkArcs : Network → List ArcRead
@@ -64,16 +64,16 @@ lacks x (b ∷ bs) = not (eqb b x) && lacks x bs
 
 -- a remark: `c` alone, or `c` and a space and anything but a line feed
 pub data IsRemark : List ℕ → Type 0 where
-  bare : IsRemark (99 ∷ [])
-  saying : {bytes : List ℕ} → lacks lineFeed bytes ≡ true → IsRemark (99 ∷ 32 ∷ bytes)
+  bare : IsRemark (remarkMark ∷ [])
+  saying : {bytes : List ℕ} → lacks lineFeed bytes ≡ true → IsRemark (remarkMark ∷ space ∷ bytes)
 
--- the second lines are the first ones with remarks put in anywhere
+-- the second list of lines is the first one with remarks put in anywhere
 pub data WithRemarks : List (List ℕ) → List (List ℕ) → Type 0 where
   no-more : WithRemarks [] []
   kept : {line : List ℕ} {lines all : List (List ℕ)} → WithRemarks lines all → WithRemarks (line ∷ lines) (line ∷ all)
   put-in : {remark : List ℕ} {lines all : List (List ℕ)} → IsRemark remark → WithRemarks lines all → WithRemarks lines (remark ∷ all)
 
--- The texts of given lists, in every layout that 01 permits. Of a network: its lines with remarks anywhere among them, each line ended
+-- The texts of lists within the limits, in every layout that 01 permits. Of a network: its lines with remarks anywhere among them, each line ended
 -- by a line feed, the last one ended or not.
 pub record IsNetworkText (net : Network) (bytes : List ℕ) : Type 0 where
   pub lines : List (List ℕ)

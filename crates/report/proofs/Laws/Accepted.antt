@@ -22,8 +22,8 @@ goes-on : {check : Check} (file more : List ℕ) → check ≡ Accepted → line
 unfolding lineOr
 goes-on file more e = rw e
 
--- Lists within the limits (of thresholds also: each no greater than a number in a text may be), and three texts of them, in any layout: what
--- is printed for these texts is the table of those lists.
+-- For lists within the limits, with thresholds no greater than a number in a text may be: whatever the layout of their three texts, what is
+-- printed is the table of these lists.
 module _ {net : Network} {all : List Row} {ts network reports thresholds : List ℕ} (is-network : IsNetworkText net network) (are-reports : IsEventText all reports) (are-thresholds : IsThresholdText ts thresholds) where
   pub table-printed : setsOverNetworkCheck net (map (λ r. r .set) all) (map (λ r. r .edge) all) (map (λ r. r .offset) all) ≡ Accepted → thresholdsCheck ts ≡ Accepted → ((k : ℕ) → k < length ts → getD ts k 0 ≤ maxNumber) → length network ≤ maxBytes → length reports ≤ maxBytes → length thresholds ≤ maxBytes → reportBytes network reports thresholds ≡ countsTable net (map (λ r. r .set) all) (events (map (λ r. r .edge) all) (map (λ r. r .offset) all)) ts
   unfolding reportBytes bytesOverNetwork bytesOverRows
