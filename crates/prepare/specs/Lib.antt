@@ -2,6 +2,7 @@
 pub mod Counts
 pub mod Prepared
 pub mod Ways
+pub mod CountRow
 pub mod RunPairs
 pub mod Totals
 pub mod EndTable

@@ -1,11 +1,11 @@
 -- What the functions of two methods that add up a set's pairs at every threshold keep: cited by inner functions alone.
-use mathlib.Core.List.{List, map}
+use mathlib.Core.List.{List}
 use mathlib.Core.Path.{_≡_}
-use Prim.Native.Nat.{ℕ, pred, _+_, _-_, _*_, _≤_, _<_, min}
+use Prim.Native.Nat.{ℕ, pred, _+_, _-_, _*_, _≤_, _<_}
 use lib.ListN.{length, getD}
-use Rattle.model.specs.Counting.{numbersFrom}
 use Rattle.model.specs.Limits.{maxEvents, maxPairs, maxThresholds}
 use Rattle.model.specs.Network.{Network}
+use Rattle.prepare.specs.CountRow.{maxTotal}
 use Rattle.prepare.specs.RunPairs.{allPairs, earlierPairs, RunsReady}
 
 -- there are some thresholds, not too many, and the last is the greatest
@@ -32,22 +32,8 @@ pub record EarlierAdded (net : Network) (es xs bounds ts : List ℕ) (r a : ℕ)
   pub added : AddedAt (length ts) (λ k. earlierPairs net es xs bounds (getD ts k 0) r a (a - r)) old new
   pub few : (k : ℕ) → k < length ts → getD new k 0 ≤ getD old k 0 + maxEvents * maxPairs
 
--- no total of pairs is greater
-abbrev pub maxTotal : ℕ
-maxTotal = 9007199254740992
-
 -- the pairs of the runs from r up to before q: those within one run, and those with earlier ones, which count twice
 pub record Totalled (net : Network) (es xs bounds ts : List ℕ) (r q : ℕ) (beside earlier : List ℕ) : Type 0 where
   pub sum : (k : ℕ) → k < length ts → getD beside k 0 + 2 * getD earlier k 0 ≡ allPairs net es xs bounds (getD ts k 0) r (q - r)
   pub beside-small : UpTo (length ts) maxTotal beside
   pub earlier-small : UpTo (length ts) maxTotal earlier
-
--- what is left of two totals where an event is no pair with itself: the first, and twice the second, less the events. Totals above
--- their limit are cut off, and so is what does not fit in 32 bits.
-unfoldable pub leftOf : ℕ → ℕ → ℕ → ℕ
-leftOf beside earlier events = min (min beside maxTotal + 2 * min earlier maxTotal - events) 4294967295
-
--- the same for the events of the runs from r up to before q, at each of n thresholds
-unfoldable pub rowLeft : List ℕ → ℕ → ℕ → List ℕ → List ℕ → ℕ → List ℕ
-rowLeft bounds r q beside earlier n =
-    map (λ k. leftOf (getD beside k 0) (getD earlier k 0) (getD bounds q 0 - getD bounds r 0)) (numbersFrom 0 n)

@@ -1,7 +1,7 @@
 // The counts of a set, from the pairs that were added up.
 ghost use mathlib.Core.Path.{_≡_};
 ghost use lib.ListN.{length, getD};
-ghost use Rattle.prepare.specs.Totals.{leftOf, rowLeft};
+ghost use Rattle.prepare.specs.CountRow.{leftOf, rowLeft};
 use model::less;
 use model::lesser;
 use model::value_at;

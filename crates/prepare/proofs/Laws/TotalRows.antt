@@ -9,7 +9,8 @@ use Rattle.model.proofs.Laws.Lists.{map-at, all-entries}
 use Rattle.model.specs.Network.{Network}
 use Rattle.prepare.specs.Prepared.{greatest}
 use Rattle.prepare.specs.RunPairs.{otherPairs, otherRow, RowReady}
-use Rattle.prepare.specs.Totals.{Steps, UpTo, maxTotal, Totalled, leftOf, rowLeft}
+use Rattle.prepare.specs.CountRow.{maxTotal, leftOf, rowLeft}
+use Rattle.prepare.specs.Totals.{Steps, UpTo, Totalled}
 use Rattle.prepare.proofs.Laws.Filled.{Filled}
 use Rattle.prepare.proofs.Laws.SetPairs.{at-most-greatest}
 

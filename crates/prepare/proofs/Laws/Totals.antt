@@ -10,7 +10,8 @@ use Rattle.model.specs.Limits.{maxEvents, maxPairs}
 use Rattle.model.specs.Network.{Network}
 use Rattle.prepare.proofs.Laws.RunPairs.{ready-to, ready-from, pairs-few, earlier-none, earlier-next, all-none, all-next}
 use Rattle.prepare.specs.RunPairs.{runPairs, earlierPairs, allPairs}
-use Rattle.prepare.specs.Totals.{Steps, ReadyAt, UpTo, AddedAt, EarlierAdded, maxTotal, Totalled}
+use Rattle.prepare.specs.CountRow.{maxTotal}
+use Rattle.prepare.specs.Totals.{Steps, ReadyAt, UpTo, AddedAt, EarlierAdded, Totalled}
 
 -- fewer runs
 pub ready-part : {net : Network} {table es xs bounds ts : List ℕ} {r q : ℕ} → ReadyAt net table es xs bounds ts r q → (b a : ℕ) → r ≤ b → b ≤ a → a < q → ReadyAt net table es xs bounds ts b (suc a)

@@ -1,7 +1,7 @@
 -- What is left is what the definition says, and fits.
 use native.Mathlib.Omega.{arith}
 use borrow.Author.Needs.{needs}
-use Rattle.prepare.specs.Totals.{leftOf}
+use Rattle.prepare.specs.CountRow.{leftOf}
 use Rattle.prepare.proofs.rows.left_of.Statement.{statement}
 use Rattle.prepare.proofs.rows.left_of.Tie as tie
 
