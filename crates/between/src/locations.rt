@@ -114,7 +114,7 @@ fn entry_between(
     entry_with(nodes, firsts, seconds, lengths, i, x, j, y, &mut row)
 }
 
-// The least length over all walks between two locations. Refuses by 2, 6 to 9, 13 and 14.
+// The least length over all walks between two locations. Refuses by 2, 6, 7, 9, 13 and 14.
 pub fn location_distance(
     nodes: u32,
     firsts: &[u32],

@@ -50,7 +50,7 @@ fn entry_between(
     entry_with(nodes, firsts, seconds, lengths, bound, u, v, &mut row)
 }
 
-// The least length over all walks from u to v. Refuses by 2 and 6 to 9.
+// The least length over all walks from u to v. Refuses by 2, 6, 7 and 9.
 pub fn node_distance(
     nodes: u32,
     firsts: &[u32],

@@ -25,7 +25,7 @@ stored net side es xs k = noFarther (size net (pred (getD es k 0))) side (having
 unfoldable pub augmented : Network → Side → List ℕ → List ℕ → List ℕ
 augmented net side es xs = map (stored net side es xs) (numbersFrom 0 (length es))
 
--- 2, 6 to 9, 13 to 15, 17
+-- 2, 6, 7, 9, 13 to 15, 17
 unfoldable pub augmentCheck : Network → List ℕ → List ℕ → List ℕ → List ℕ → Check
 augmentCheck net es xs near-first near-second =
     orElse (networkLists net)

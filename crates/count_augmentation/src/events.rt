@@ -25,7 +25,7 @@ fn store_events(edges: &[u32], offsets: &[u32], near_first: &mut [u32], near_sec
     }
 }
 
-// 2, 6 to 9, 13 to 15 and 17. Every refusal 2 is at place 0, so that the room may be looked at first. Beside the events one edge
+// 2, 6, 7, 9, 13 to 15 and 17. Every refusal 2 is at place 0, so that the room may be looked at first. Beside the events one edge
 // is looked at: edge 1, which every network has.
 fn check_augment(
     nodes: u32,

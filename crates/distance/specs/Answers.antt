@@ -43,7 +43,7 @@ tableRows net bound wanted old u (suc more) =
 unfoldable pub table : Network → ℕ → List ℕ → List ℕ → List ℕ
 table net bound wanted old = tableRows net bound wanted old 1 (net .nodes)
 
--- 2 (the list of wanted nodes has an entry for each node, the table one for each pair), 6 to 9
+-- 2 (the list of wanted nodes has an entry for each node, the table one for each pair), 6, 7, 9
 unfoldable pub tableCheck : Network → List ℕ → List ℕ → Check
 tableCheck net wanted old =
     orElse (networkLists net)

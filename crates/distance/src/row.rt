@@ -10,7 +10,7 @@ use crate::find::find;
 use model::Check;
 use model::Network;
 
-// 2, the answer list too, then 6 to 9 with the source as a lone node.
+// 2, the answer list too, then 6, 7 and 9 with the source as a lone node.
 fn check_row(
     nodes: u32,
     firsts: &[u32],
@@ -61,7 +61,7 @@ fn write_row(
 }
 
 // The code of the bounded distance from the source to each node, in node order: 0 where it is beyond the bound, else one more
-// than the metres. Refuses by 2 and 6 to 9, and leaves the answers as they were then.
+// than the metres. Refuses by 2, 6, 7 and 9, and leaves the answers as they were then.
 pub fn distances_from(
     nodes: u32,
     firsts: &[u32],

@@ -16,7 +16,7 @@ use crate::search::search;
 use model::Check;
 use model::Network;
 
-// 2, the list of wanted nodes and the table too, then 6 to 9.
+// 2, the list of wanted nodes and the table too, then 6, 7 and 9.
 fn check_table(
     nodes: u32,
     firsts: &[u32],
@@ -181,7 +181,7 @@ fn fill(
 }
 
 // A square table of codes of bounded distances, a row for each node. A row whose entry in the list of wanted nodes is 0 stays as
-// it was. Refuses by 2 and 6 to 9, and leaves the table as it was then.
+// it was. Refuses by 2, 6, 7 and 9, and leaves the table as it was then.
 pub fn end_distances(
     nodes: u32,
     firsts: &[u32],

@@ -5,6 +5,7 @@ pub mod Least
 pub mod NodeDistance
 pub mod Gaps
 pub mod Location
+pub mod Loops
 pub mod Codes
 pub mod Routes
 pub mod Cases

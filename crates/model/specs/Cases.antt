@@ -1,4 +1,4 @@
--- Document 01's proved cases, P1 to P10, as one table of the definitions.
+-- Document 01's proved cases, P1 to P10, as one table of the definitions; and a second table with an edge that joins a node to itself.
 use mathlib.Core.List.{List, [], _∷_, map}
 use mathlib.Core.Path.{_≡_, refl}
 use Prim.Native.Nat.{ℕ}
@@ -9,6 +9,8 @@ use Rattle.model.specs.Events.{Event, event, events}
 use Rattle.model.specs.PairCount.{pairCount, eventDistance}
 use Rattle.model.specs.Perimeter.{perimeterCount}
 use Rattle.model.specs.Envelope.{Envelope, between, observed, envelope}
+use Rattle.model.specs.Checks.{networkCheck}
+use Rattle.model.specs.declared.check.Check.the-variants.{Accepted}
 
 -- 01's full run: edges 1: 1 to 2, 5 m; 2: 2 to 3, 4 m; 3: 3 to 1, 3 m; 4: 3 to 4, 6 m
 abbrev pub harbour : Network
@@ -44,3 +46,26 @@ pub record Cases : Type 0 where
   pub p1-to-p4 : map row (2 ∷ 3 ∷ 5 ∷ 7 ∷ []) ≡ expected 0 2 12 ∷ expected 4 2 12 ∷ expected 8 6 12 ∷ expected 12 6 12 ∷ []
   pub p5-to-p9 : map around (0 ∷ 4 ∷ 5 ∷ 6 ∷ 11 ∷ []) ≡ 1 ∷ 2 ∷ 3 ∷ 2 ∷ 0 ∷ []
   pub p10 : eventDistance twoWays (event 1 1) (event 1 11) ≡ metres 4
+
+-- a turning basin: edges 1: 1 to 1, 10 m; 2: 1 to 2, 4 m
+abbrev pub basin : Network
+basin = network 2 (1 ∷ 1 ∷ []) (1 ∷ 2 ∷ []) (10 ∷ 4 ∷ [])
+
+-- around a centre on its edge 1
+abbrev pub aroundBasin : ℕ → ℕ → ℕ
+aroundBasin offset radius = perimeterCount basin (locationOf basin 0 offset) radius
+
+-- three events on its edge 1: at the node by either offset, and half way round
+abbrev pub basinEvents : List Event
+basinEvents = events (1 ∷ 1 ∷ 1 ∷ []) (0 ∷ 5 ∷ 10 ∷ [])
+
+pub record LoopCases : Type 0 where
+  pub accepted : networkCheck basin ≡ Accepted
+  pub one-place : locationOf basin 0 0 ≡ locationOf basin 0 10
+  pub by-the-node : eventDistance basin (event 1 2) (event 1 9) ≡ metres 3
+  pub at-the-node : eventDistance basin (event 1 0) (event 1 10) ≡ metres 0
+  pub by-the-near-gap : eventDistance basin (event 1 3) (event 2 2) ≡ metres 5
+  pub by-the-far-gap : eventDistance basin (event 1 9) (event 2 2) ≡ metres 3
+  pub around-inside : map (aroundBasin 3) (0 ∷ 5 ∷ []) ≡ 1 ∷ 2 ∷ []
+  pub around-node : map (aroundBasin 10) (4 ∷ 5 ∷ []) ≡ 3 ∷ 1 ∷ []
+  pub pairs : map (pairCount basin basinEvents) (0 ∷ 4 ∷ 5 ∷ []) ≡ 2 ∷ 2 ∷ 6 ∷ []

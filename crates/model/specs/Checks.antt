@@ -10,7 +10,7 @@ use Rattle.model.specs.declared.check.Check.the-variants.{Accepted}
 use Rattle.model.specs.Network.{Network, edges, first, second, size}
 use Rattle.model.specs.Events.{event, before, setSize, greatestSet}
 use Rattle.model.specs.Limits.{maxNodes, maxEdges, maxLength, maxEvents, maxSet, maxThresholds}
-use Rattle.model.specs.Refusal.{orElse, unless, firstBad, firstBadFrom, isBetween, listsDiffer, badSizes, badNode, selfJoined, badLength, badSet, noEdge, beyondEdge, tooManyEvents, unequalSets, notInOrder, badThresholds, notRising}
+use Rattle.model.specs.Refusal.{orElse, unless, firstBad, firstBadFrom, isBetween, listsDiffer, badSizes, badNode, badLength, badSet, noEdge, beyondEdge, tooManyEvents, unequalSets, notInOrder, badThresholds, notRising}
 
 -- 2: two lists that belong together differ in length
 unfoldable pub sameLength : List ℕ → List ℕ → Check
@@ -28,10 +28,6 @@ sizesCheck nodes edges = unless (isBetween 1 maxNodes nodes && isBetween 1 maxEd
 unfoldable pub nodesCheck : Network → Check
 nodesCheck net =
     firstBad badNode (λ i. isBetween 1 (net .nodes) (first net i) && isBetween 1 (net .nodes) (second net i)) (edges net)
-
--- 8: an edge joins a node to itself
-unfoldable pub selfCheck : Network → Check
-selfCheck net = firstBad selfJoined (λ i. not (eqb (first net i) (second net i))) (edges net)
 
 -- 9: a length outside its limits
 unfoldable pub lengthsCheck : Network → Check
@@ -94,11 +90,10 @@ eventLists es xs = sameLength es xs
 unfoldable pub setLists : List ℕ → List ℕ → List ℕ → Check
 setLists sets es xs = orElse (sameLength sets es) (eventLists es xs)
 
--- 6 to 9; lone is the check of lone nodes, if any
+-- 6, 7 and 9; lone is the check of lone nodes, if any
 unfoldable pub networkValues : Check → Network → Check
 networkValues lone net =
-    orElse (sizesCheck (net .nodes) (edges net))
-    (orElse lone (orElse (nodesCheck net) (orElse (selfCheck net) (lengthsCheck net))))
+    orElse (sizesCheck (net .nodes) (edges net)) (orElse lone (orElse (nodesCheck net) (lengthsCheck net)))
 
 -- a network alone
 unfoldable pub networkCheck : Network → Check

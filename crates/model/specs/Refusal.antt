@@ -36,7 +36,7 @@ placeOf (Refused number place) = place
 unfoldable pub isBetween : ℕ → ℕ → ℕ → Bool
 isBetween low high n = leb low n && leb n high
 
--- 01's numbers for lists. (1, 3 to 5, 10 and 11 are met by texts alone.)
+-- 01's numbers for lists. (1, 3 to 5, 10 and 11 are met by texts alone; 8 is unused, for an edge may join a node to itself.)
 abbrev pub listsDiffer : ℕ
 listsDiffer = 2
 
@@ -45,9 +45,6 @@ badSizes = 6
 
 abbrev pub badNode : ℕ
 badNode = 7
-
-abbrev pub selfJoined : ℕ
-selfJoined = 8
 
 abbrev pub badLength : ℕ
 badLength = 9

@@ -8,7 +8,7 @@ pub enum Check {
     Refused(u32, usize),
 }
 
-// Document 01's refusal numbers.
+// Document 01's refusal numbers; 8 is unused.
 impl Check {
     pub const TOO_LONG: u32 = 1;
 
@@ -23,8 +23,6 @@ impl Check {
     pub const BAD_SIZES: u32 = 6;
 
     pub const BAD_NODE: u32 = 7;
-
-    pub const SELF_JOINED: u32 = 8;
 
     pub const BAD_LENGTH: u32 = 9;
 

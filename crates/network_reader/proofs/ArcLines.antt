@@ -55,7 +55,7 @@ module _ {nodes arcs count : ℕ} (s : Sound (seen.Arcs nodes arcs count)) {firs
   long = arcs-length l count (omega (arith, bounds-of s .no-more, bounds-of s .few))
 
   module _ {u v w : ℕ} where
-    -- 7 to 9
+    -- 7 and 9
     pub arc-refused : {r : LineRead} {number : ℕ} → ArcChecked nodes (arc u v w) r → r ≡ line-answer.Refused number → LineTaken (seen.Arcs nodes arcs count) (form.Arc u v w) firsts seconds lengths (arc-answer.Refused number) firsts seconds lengths
     unfolding networkStep stateIn takeArc arcAfter
     arc-refused k e = line-refused (k .before _ ∙ rw e)

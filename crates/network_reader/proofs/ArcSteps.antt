@@ -10,7 +10,7 @@ use lib.ListN.{length, take, set, getD}
 use lib.Seq.{length-take-le}
 use Rattle.model.proofs.Laws.Refusal.{both-true}
 use Rattle.model.specs.Limits.{maxEdges, maxLength}
-use Rattle.model.specs.Refusal.{isBetween, badNode, selfJoined, badLength}
+use Rattle.model.specs.Refusal.{isBetween, badNode, badLength}
 use Rattle.text.specs.NetworkText.{ArcRead, turnsLast, arc, turned, bothWays, arcsOf}
 use Rattle.text.specs.Parallel.{beside, Level}
 use Rattle.reading.specs.declared.line.LineRead.the-variants as line-answer
@@ -19,25 +19,20 @@ use Rattle.reading.proofs.Require.{holds, fails}
 use Rattle.network_reader.specs.Steps.{arcsIn, arcAfter, ArcChecked}
 use Rattle.network_reader.proofs.BothWays.{no-arc, both-length, edge-stored, second-follows, isTurned, last-is}
 
--- The checks 7 to 9.
+-- The checks 7 and 9.
 module _ (nodes : ℕ) (b : ArcRead) where
   pub nodes-refused : (isBetween 1 nodes (b .from) && isBetween 1 nodes (b .to)) ≡ false → ArcChecked nodes b (line-answer.Refused badNode)
   unfolding arcAfter
   nodes-refused e = record { before = λ on. fails badNode _ e }
 
   module _ (n : (isBetween 1 nodes (b .from) && isBetween 1 nodes (b .to)) ≡ true) where
-    pub joined-refused : b .from ≡ b .to → ArcChecked nodes b (line-answer.Refused selfJoined)
+    pub length-refused : isBetween 1 maxLength (b .weight) ≡ false → ArcChecked nodes b (line-answer.Refused badLength)
     unfolding arcAfter
-    joined-refused e = record { before = λ on. holds badNode n (fails selfJoined _ (rw (eq-eqb _ _ e))) }
+    length-refused e = record { before = λ on. holds badNode n (fails badLength _ e) }
 
-    module _ (d : b .from ≡ b .to → ⊥) where
-      pub length-refused : isBetween 1 maxLength (b .weight) ≡ false → ArcChecked nodes b (line-answer.Refused badLength)
-      unfolding arcAfter
-      length-refused e = record { before = λ on. holds badNode n (holds selfJoined (rw (ne-eqb _ _ d)) (fails badLength _ e)) }
-
-      pub arc-accepted : isBetween 1 maxLength (b .weight) ≡ true → ArcChecked nodes b line-answer.Taken
-      unfolding arcAfter
-      arc-accepted e = record { before = λ on. holds badNode n (holds selfJoined (rw (ne-eqb _ _ d)) (holds badLength e refl)) }
+    pub arc-accepted : isBetween 1 maxLength (b .weight) ≡ true → ArcChecked nodes b line-answer.Taken
+    unfolding arcAfter
+    arc-accepted e = record { before = λ on. holds badNode n (holds badLength e refl) }
 
 -- half of a number of arcs
 pub half-even : (count : ℕ) → (count % 2 ≡ 1 → ⊥) → count ≡ 2 * (count / 2)

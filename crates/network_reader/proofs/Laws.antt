@@ -1,5 +1,5 @@
 -- The network of an accepted text passes the check that later functions make; an answer tells what was accepted.
-use mathlib.Core.Bool.{Bool, true, false, cond, _&&_, not}
+use mathlib.Core.Bool.{Bool, true, false, cond, _&&_}
 use mathlib.Core.List.{List, [], _∷_, _++_, map}
 use mathlib.Core.Path.{_≡_, refl, sym, _∙_}
 use Prim.Native.Nat.{ℕ, zero, suc, _+_, _*_, _%_, _<_}
@@ -9,10 +9,10 @@ use lib.Dec.{eqb}
 use lib.ListN.{length, getD, length-map}
 use Rattle.model.proofs.Laws.CheckParts.{lists-accept, sizes-accept}
 use Rattle.model.proofs.Laws.Refusal.{not-accepted, Between, both-accepted, both-accept, both-true, between-true, below-good}
-use Rattle.model.specs.Checks.{networkCheck, networkValues, nodesCheck, selfCheck, lengthsCheck}
+use Rattle.model.specs.Checks.{networkCheck, networkValues, nodesCheck, lengthsCheck}
 use Rattle.model.specs.Limits.{maxNodes, maxEdges, maxLength}
 use Rattle.model.specs.Network.{Network, edges}
-use Rattle.model.specs.Refusal.{isBetween, badSizes, badNode, selfJoined, badLength}
+use Rattle.model.specs.Refusal.{isBetween, badSizes, badNode, badLength}
 use Rattle.model.specs.declared.check.Check.{Check}
 use Rattle.model.specs.declared.check.Check.the-variants.{Accepted, Refused}
 use Rattle.text.specs.Lines.{feedLines}
@@ -27,10 +27,9 @@ use Rattle.network_reader.specs.Answers.{networkIn, textNetwork, network
 use Rattle.network_reader.specs.declared.answers.ReadNetwork.the-variants as network-answer
 use Rattle.network_reader.proofs.BothWays.{no-arc, two-more}
 
--- an arc's own tests: 7 to 9
+-- an arc's own tests: 7 and 9
 pub record ArcGood (nodes : ℕ) (b : ArcRead) : Type 0 where
   pub nodes-good : (isBetween 1 nodes (b .from) && isBetween 1 nodes (b .to)) ≡ true
-  pub differ : not (eqb (b .from) (b .to)) ≡ true
   pub length-good : isBetween 1 maxLength (b .weight) ≡ true
 
 -- the sizes of a `p` line: 6
@@ -70,12 +69,11 @@ arc-keeps : (n m : ℕ) (all : List ArcRead) (b : ArcRead) (s′ : NetworkState)
 unfolding takeArc
 arc-keeps n m all b s′ g e =
     let one = passed badNode _ e in
-    let two = passed selfJoined _ (one .1) in
-    let three = passed badLength _ (two .1) in
-    let four = passed notTurned _ (three .1) in
-    let five = passed wrongArcs _ (four .1) in
-    let is : reading n m (all ++ (b ∷ [])) ≡ s′ = cc (five .1) in
-    let good : ArcGood n b = record { nodes-good = one .0; differ = two .0; length-good = three .0 } in
+    let two = passed badLength _ (one .1) in
+    let three = passed notTurned _ (two .1) in
+    let four = passed wrongArcs _ (three .1) in
+    let is : reading n m (all ++ (b ∷ [])) ≡ s′ = cc (four .1) in
+    let good : ArcGood n b = record { nodes-good = one .0; length-good = two .0 } in
     rw (← is) (some (record { sizes = g .sizes; each = each-snoc (ArcGood n) no-arc all b (g .each) good }))
 
 -- one more line keeps it
@@ -119,13 +117,6 @@ module _ {nodes arcs : ℕ} {all : List ArcRead} (g : ArcsGood nodes arcs all) (
       below-good badNode _ _
       (λ k h. rw (at-index (λ a. a .from) no-arc (everyOther all) refl k, at-index (λ a. a .to) no-arc (everyOther all) refl k) (edge-good k (omega (arith, lists-long (λ a. a .weight))) .nodes-good))
 
-  -- 8
-  self-pass : selfCheck (networkOfArcs nodes all) ≡ Accepted
-  unfolding selfCheck networkOfArcs
-  self-pass =
-      below-good selfJoined _ _
-      (λ k h. rw (at-index (λ a. a .from) no-arc (everyOther all) refl k, at-index (λ a. a .to) no-arc (everyOther all) refl k) (edge-good k (omega (arith, lists-long (λ a. a .weight))) .differ))
-
   -- 9
   lengths-pass : lengthsCheck (networkOfArcs nodes all) ≡ Accepted
   unfolding lengthsCheck networkOfArcs
@@ -145,7 +136,7 @@ module _ {nodes arcs : ℕ} {all : List ArcRead} (g : ArcsGood nodes arcs all) (
   unfolding networkCheck networkValues networkOfArcs
   arcs-pass =
       both-accept (lists-accept (networkOfArcs nodes all) (lists-long (λ a. a .from) ∙ sym (lists-long (λ a. a .weight))) (lists-long (λ a. a .to) ∙ sym (lists-long (λ a. a .weight))))
-      (both-accept (sizes-accept nodes _ (g .sizes .nodes-in) few-edges) (both-accept refl (both-accept nodes-pass (both-accept self-pass lengths-pass))))
+      (both-accept (sizes-accept nodes _ (g .sizes .nodes-in) few-edges) (both-accept refl (both-accept nodes-pass lengths-pass)))
 
 -- so the network of a text that is read passes
 pub lines-pass : (lines : List (List ℕ)) → checkOf (networkLines lines) ≡ Accepted → networkCheck (networkIn (networkLines lines)) ≡ Accepted

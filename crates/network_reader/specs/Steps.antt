@@ -1,14 +1,13 @@
 -- What the parts of the reader of networks answer: three lists hold the first of every two arcs read so far, side by side.
-use mathlib.Core.Bool.{_&&_, not}
+use mathlib.Core.Bool.{_&&_}
 use mathlib.Core.List.{List}
 use mathlib.Core.Path.{_≡_}
 use Prim.Native.Nat.{ℕ, _*_, _%_, _≤_}
-use lib.Dec.{eqb}
 use lib.ListN.{take}
 use Rattle.model.specs.Answer.{written}
 use Rattle.model.specs.Limits.{maxEdges, maxLength}
 use Rattle.model.specs.Network.{Network, edges}
-use Rattle.model.specs.Refusal.{isBetween, badNode, selfJoined, badLength}
+use Rattle.model.specs.Refusal.{isBetween, badNode, badLength}
 use Rattle.text.specs.Lines.{feedLines}
 use Rattle.text.specs.NetworkText.{ArcRead, arcsOf, NetworkState, before-problem, reading, networkStep, networkEnd, networkLines}
 use Rattle.text.specs.Reading.{Step, taken, refused, Outcome, read, refusedAt, require}
@@ -54,13 +53,13 @@ unfoldable pub stepIn : ArcStep → List ℕ → List ℕ → List ℕ → Step 
 stepIn (arc-answer.Taken s) firsts seconds lengths = taken (stateIn s firsts seconds lengths)
 stepIn (arc-answer.Refused number) firsts seconds lengths = refused number
 
--- 7 to 9 for one arc, whatever is asked behind them
+-- 7 and 9 for one arc, whatever is asked behind them
 unfoldable pub arcAfter : LineRead → Step NetworkState → Step NetworkState
 arcAfter line-answer.Taken onward = onward
 arcAfter (line-answer.Refused number) onward = refused number
 
 pub record ArcChecked (nodes : ℕ) (b : ArcRead) (r : LineRead) : Type 0 where
-  pub before : (onward : Step NetworkState) → require (isBetween 1 nodes (b .from) && isBetween 1 nodes (b .to)) badNode (require (not (eqb (b .from) (b .to))) selfJoined (require (isBetween 1 maxLength (b .weight)) badLength onward)) ≡ arcAfter r onward
+  pub before : (onward : Step NetworkState) → require (isBetween 1 nodes (b .from) && isBetween 1 nodes (b .to)) badNode (require (isBetween 1 maxLength (b .weight)) badLength onward) ≡ arcAfter r onward
 
 -- a line of some form, behind what was seen
 pub record LineTaken (s : Seen) (line : NetworkLine) (firsts seconds lengths : List ℕ) (r : ArcStep) (firsts′ seconds′ lengths′ : List ℕ) : Type 0 where

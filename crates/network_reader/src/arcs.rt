@@ -51,15 +51,12 @@ fn are_nodes(nodes: u32, from: u32, to: u32) -> bool
     model::is_between(1, nodes as u64, to as u64)
 }
 
-// 7 to 9 for one arc.
+// 7 and 9 for one arc.
 fn check_arc(nodes: u32, from: u32, to: u32, weight: u32) -> LineRead
     ensures { λ r. ⌜ ArcChecked nodes (arc from to weight) r ⌝ }
 {
     if !are_nodes(nodes, from, to) {
         return LineRead::Refused(Check::BAD_NODE);
-    }
-    if from == to {
-        return LineRead::Refused(Check::SELF_JOINED);
     }
     if !Network::is_length(weight) {
         return LineRead::Refused(Check::BAD_LENGTH);
@@ -115,7 +112,7 @@ fn store(
     lengths[edge] = weight;
 }
 
-// 7 to 11 for one more arc.
+// 7 and 9 to 11 for one more arc.
 fn take_arc(
     nodes: u32,
     arcs: u32,

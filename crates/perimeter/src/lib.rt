@@ -15,7 +15,7 @@ pub enum Counted {
     Refused(u32, usize),
 }
 
-// The centre is an edge number and an offset. A node is one location however many edges meet there. Refuses by 2, 6 to 9, 13, 14.
+// The centre is an edge number and an offset. A node is one location however many edges meet there. Refuses by 2, 6, 7, 9, 13, 14.
 pub fn perimeter_count(
     nodes: u32,
     firsts: &[u32],

@@ -25,7 +25,7 @@ countRows net sets es ts s (suc n) = countRow net sets es ts s ++ countRows net 
 unfoldable pub countTable : Network → List ℕ → List Event → List ℕ → List ℕ
 countTable net sets es ts = countRows net sets es ts 0 (setCount sets)
 
--- 2 (the answer list has room for a count of every set at every threshold), 6 to 9, 12 to 16, 18, 19
+-- 2 (the answer list has room for a count of every set at every threshold), 6, 7, 9, 12 to 16, 18, 19
 unfoldable pub countsCheck : Network → List ℕ → List ℕ → List ℕ → List ℕ → ℕ → Check
 countsCheck net sets es xs ts room =
     orElse (networkLists net)

@@ -16,7 +16,7 @@ fn has_room(sets: &[u32], thresholds: &[u32], room: usize) -> bool
     thresholds.len() <= room / count
 }
 
-// 2, 6 to 9, 12 to 16, 18 and 19. Every refusal 2 is at place 0, so that the room may be looked at first.
+// 2, 6, 7, 9, 12 to 16, 18 and 19. Every refusal 2 is at place 0, so that the room may be looked at first.
 pub(crate) fn check_counts(
     nodes: u32,
     firsts: &[u32],

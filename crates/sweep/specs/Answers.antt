@@ -62,7 +62,7 @@ module _ (net : Network) (es xs : List ℕ) (e f t bound : ℕ) where
       ∷ markedIf (eqb e f) (moves 0 (map (upTo t on-second) on-first))
       ∷ []
 
--- 2 (positions: six for each event on the first edge; moves: six), 6 to 9, 13 (the two edges at place 0), 13 to 15, 17
+-- 2 (positions: six for each event on the first edge; moves: six), 6, 7, 9, 13 (the two edges at place 0), 13 to 15, 17
 unfoldable pub cursorsCheck : Network → List ℕ → List ℕ → ℕ → ℕ → List ℕ → List ℕ → Check
 cursorsCheck net es xs e f ps ms =
     orElse (networkLists net)

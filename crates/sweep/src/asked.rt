@@ -49,7 +49,7 @@ fn has_rooms(edges: &[u32], offsets: &[u32], edge1: u32, positions: &[u32], move
     CURSORS <= moves.len()
 }
 
-// 2, 6 to 9, 13 for the two edges, 13 to 15 and 17. Every refusal 2 is at place 0, so that the rooms may be looked at first;
+// 2, 6, 7, 9, 13 for the two edges, 13 to 15 and 17. Every refusal 2 is at place 0, so that the rooms may be looked at first;
 // an edge's offset 0 is never beyond it, so that the check of two locations is one of two edges.
 pub(crate) fn check_cursors(
     nodes: u32,

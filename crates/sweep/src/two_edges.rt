@@ -58,7 +58,7 @@ fn sweep_between(
 
 // The positions of the six cursors of two edges at each event of the first, cursor by cursor, and the moves of each. A route whose
 // node distance is beyond the bound has no cursor, and on two different edges there are none of the window: 0 stands for that, and
-// one more than the number otherwise. Refuses by 2, 6 to 9, 13 to 15 and 17, and leaves the answers as they were then.
+// one more than the number otherwise. Refuses by 2, 6, 7, 9, 13 to 15 and 17, and leaves the answers as they were then.
 pub fn cursors(
     nodes: u32,
     firsts: &[u32],

@@ -36,7 +36,7 @@ unfoldable pub spansCheck : List ℕ → ℕ → List ℕ → List ℕ → Check
 spansCheck sets width second third =
     orElse (roomCheck (spanned (greatestSet sets) width) second) (roomCheck (spanned (greatestSet sets) width) third)
 
--- 2 (each answer list has room for what it is to hold; every 2 is at place 0), 6 to 9, 12 to 16; then 18 and 19
+-- 2 (each answer list has room for what it is to hold; every 2 is at place 0), 6, 7, 9, 12 to 16; then 18 and 19
 unfoldable pub tableCheck : Network → List ℕ → List ℕ → List ℕ → List ℕ → List ℕ → List ℕ → List ℕ → Check
 tableCheck net sets es xs ts first second third =
     orElse (roomCheck (length ts) first)

@@ -33,7 +33,7 @@ fn check_spans(sets: &[u32], width: usize, lower: &[u32], upper: &[u32]) -> Chec
     check_rooms(spanned(greatest, width), lower, upper)
 }
 
-// 2, 6 to 9, 12 to 16, 18 and 19. Every refusal 2 is at place 0, so that the answer lists may be looked at first.
+// 2, 6, 7, 9, 12 to 16, 18 and 19. Every refusal 2 is at place 0, so that the answer lists may be looked at first.
 pub(crate) fn check_table(
     nodes: u32,
     firsts: &[u32],

@@ -1,12 +1,12 @@
 -- A network text (.gr): what each line is, what it does, and what the whole text comes to.
-use mathlib.Core.Bool.{Bool, true, false, cond, _&&_, _||_, not}
+use mathlib.Core.Bool.{Bool, true, false, cond, _&&_, _||_}
 use mathlib.Core.List.{List, [], _∷_, _++_, map}
 use Prim.Native.Nat.{ℕ, zero, suc, _+_, _*_, _%_, _≤_, _<_}
 use lib.Dec.{eqb, leb, ltb}
 use lib.ListN.{length, drop}
 use Rattle.model.specs.Limits.{maxNodes, maxEdges, maxLength}
 use Rattle.model.specs.Network.{Network, network}
-use Rattle.model.specs.Refusal.{isBetween, badSizes, badNode, selfJoined, badLength}
+use Rattle.model.specs.Refusal.{isBetween, badSizes, badNode, badLength}
 use Rattle.text.specs.Parallel.{beside}
 use Rattle.text.specs.Fields.{space, fields, sameBytes, beginsWith, numbersOf}
 use Rattle.text.specs.declared.fields.Numbers.{Numbers}
@@ -69,14 +69,13 @@ turnsLast [] b = true
 turnsLast (a ∷ []) b = eqb (a .from) (b .to) && (eqb (a .to) (b .from) && eqb (a .weight) (b .weight))
 turnsLast (a ∷ a′ ∷ more) b = turnsLast (a′ ∷ more) b
 
--- 7 to 11 for one more arc: 10 is asked of every second one
+-- 7 and 9 to 11 for one more arc: 10 is asked of every second one
 unfoldable pub takeArc : ℕ → ℕ → List ArcRead → ArcRead → Step NetworkState
 takeArc nodes arcs before b =
     require (isBetween 1 nodes (b .from) && isBetween 1 nodes (b .to)) badNode
-    (require (not (eqb (b .from) (b .to))) selfJoined
     (require (isBetween 1 maxLength (b .weight)) badLength
     (require (eqb (length before % 2) 0 || turnsLast before b) notTurned
-    (require (ltb (length before) arcs) wrongArcs (taken (reading nodes arcs (before ++ (b ∷ []))))))))
+    (require (ltb (length before) arcs) wrongArcs (taken (reading nodes arcs (before ++ (b ∷ [])))))))
 
 -- 6: N is not within the limit of nodes, or M is odd or not from 2 to twice the limit of edges
 unfoldable pub takeProblem : ℕ → ℕ → Step NetworkState

@@ -13,7 +13,7 @@ use model::Check;
 pub use number::check_room;
 pub use sets::greatest_set;
 
-// A network alone: 2, then 6 to 9.
+// A network alone: 2, then 6, 7 and 9.
 pub fn check_network(nodes: u32, firsts: &[u32], seconds: &[u32], lengths: &[u32]) -> Check
     ensures { λ r. ⌜ r ≡ networkCheck (network nodes (now (firsts .entry)) (now (seconds .entry)) (now (lengths .entry))) ⌝ }
 {
@@ -74,7 +74,7 @@ pub fn check_locations(
     events::check_lone_offset(lengths, edge2, offset2)
 }
 
-// One set in any order, over a network: 2, 6 to 9, 13 to 15.
+// One set in any order, over a network: 2, 6, 7, 9, 13 to 15.
 pub fn check_set(
     nodes: u32,
     firsts: &[u32],

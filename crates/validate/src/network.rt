@@ -1,11 +1,11 @@
-// Refusals 2 and 6 to 9: the lists of a network.
+// Refusals 2, 6, 7 and 9: the lists of a network.
 ghost use mathlib.Core.Path.{_≡_};
 ghost use mathlib.Core.Bool.{_&&_};
 ghost use lib.ListN.{length};
 ghost use Rattle.model.specs.Network.{network};
 ghost use Rattle.model.specs.Refusal.{isBetween, orElse};
 ghost use Rattle.validate.specs.Part.{withNodes, withLengths, withEdges};
-ghost use Rattle.model.specs.Checks.{networkLists, networkValues, sizesCheck, nodesCheck, selfCheck, lengthsCheck, loneNodeCheck};
+ghost use Rattle.model.specs.Checks.{networkLists, networkValues, sizesCheck, nodesCheck, lengthsCheck, loneNodeCheck};
 use crate::number::names_one;
 use crate::number::same_length;
 use model::Check;
@@ -58,21 +58,6 @@ fn check_ends(nodes: u32, firsts: &[u32], seconds: &[u32], lengths: &[u32]) -> C
     Check::Accepted
 }
 
-// 8: an edge joins a node to itself.
-fn check_different(firsts: &[u32], seconds: &[u32], lengths: &[u32]) -> Check
-    requires { ⌜ (length (now firsts) ≡ length (now lengths)) × (length (now seconds) ≡ length (now lengths)) ⌝ }
-    ensures { λ r. ⌜ r ≡ selfCheck (withEdges (now (firsts .entry)) (now (seconds .entry)) (now (lengths .entry))) ⌝ }
-{
-    let mut k = 0;
-    while k < lengths.len() {
-        if firsts[k] == seconds[k] {
-            return Check::Refused(Check::SELF_JOINED, k);
-        }
-        k += 1;
-    }
-    Check::Accepted
-}
-
 // 9: a length outside its limits.
 fn check_lengths(lengths: &[u32]) -> Check
     ensures { λ r. ⌜ r ≡ lengthsCheck (withLengths (now (lengths .entry))) ⌝ }
@@ -108,7 +93,7 @@ pub(crate) fn check_lone_nodes(nodes: u32, u: u32, v: u32) -> Check
     check_lone_node(nodes, v)
 }
 
-// 6 to 9; lone is what the check of lone nodes said.
+// 6, 7 and 9; lone is what the check of lone nodes said.
 fn check_values(lone: Check, nodes: u32, firsts: &[u32], seconds: &[u32], lengths: &[u32]) -> Check
     requires { ⌜ (length (now firsts) ≡ length (now lengths)) × (length (now seconds) ≡ length (now lengths)) ⌝ }
     ensures { λ r. ⌜ r ≡ networkValues lone (network nodes (now (firsts .entry)) (now (seconds .entry)) (now (lengths .entry))) ⌝ }
@@ -124,14 +109,10 @@ fn check_values(lone: Check, nodes: u32, firsts: &[u32], seconds: &[u32], length
     if let Check::Refused(_, _) = ends {
         return ends;
     }
-    let different = check_different(firsts, seconds, lengths);
-    if let Check::Refused(_, _) = different {
-        return different;
-    }
     check_lengths(lengths)
 }
 
-// A network and what is lent with it: 2 for the network's lists, then what the check of the other lists said, then 6 to 9.
+// A network and what is lent with it: 2 for the network's lists, then what the check of the other lists said, then 6, 7 and 9.
 pub(crate) fn check_over(
     others: Check,
     lone: Check,

@@ -4,14 +4,14 @@ use mathlib.Core.List.{List, [], _∷_}
 use mathlib.Core.Path.{_≡_, _∙_, ap}
 use Prim.Native.Nat.{ℕ, zero, suc, pred, _≤_, _<_}
 use native.Mathlib.Omega.{arith}
-use borrow.Author.Tests.{eqb-true, eqb-false, eq-eqb, ne-eqb, leb-true, le-leb, ltb-true, lt-ltb, not-true}
+use borrow.Author.Tests.{eqb-true, eq-eqb, leb-true, le-leb, ltb-true, lt-ltb, not-true}
 use lib.ListN.{length, getD}
 use Rattle.model.proofs.Laws.Refusal.{Between, both-accepted, both-accept, both-true, or-else-assoc, two-or-accepted, unless-accepted, unless-accepts, between-true, true-between, all-good, good-at, good-below, below-good, good-behind, behind-good}
-use Rattle.model.specs.Checks.{sameLength, roomCheck, sizesCheck, nodesCheck, selfCheck, lengthsCheck, setNumbersCheck, eventEdgesCheck, eventOffsetsCheck, eventCountCheck, equalSetsCheck, orderCheck, thresholdCountCheck, risingCheck, loneNodeCheck, loneEdgeCheck, loneOffsetCheck, networkLists, eventLists, setLists}
+use Rattle.model.specs.Checks.{sameLength, roomCheck, sizesCheck, nodesCheck, lengthsCheck, setNumbersCheck, eventEdgesCheck, eventOffsetsCheck, eventCountCheck, equalSetsCheck, orderCheck, thresholdCountCheck, risingCheck, loneNodeCheck, loneEdgeCheck, loneOffsetCheck, networkLists, eventLists, setLists}
 use Rattle.model.specs.Events.{event, events, InOrder, empty, one, more, before, setSize, greatestSet}
 use Rattle.model.specs.Limits.{maxNodes, maxEdges, maxLength, maxEvents, maxSet, maxThresholds}
 use Rattle.model.specs.Network.{Network, IsNode, EndsAreNodes, edges, first, second, size}
-use Rattle.model.specs.Refusal.{orElse, isBetween, listsDiffer, badSizes, badNode, selfJoined, badLength, badSet, noEdge, beyondEdge, tooManyEvents, unequalSets, notInOrder, badThresholds, notRising}
+use Rattle.model.specs.Refusal.{orElse, isBetween, listsDiffer, badSizes, badNode, badLength, badSet, noEdge, beyondEdge, tooManyEvents, unequalSets, notInOrder, badThresholds, notRising}
 use Rattle.model.specs.declared.check.Check.{Check}
 use Rattle.model.specs.declared.check.Check.the-variants.{Accepted, Refused}
 
@@ -97,15 +97,6 @@ unfolding nodesCheck
 ends-accept net n =
     below-good badNode _ (edges net)
     (λ i h. simp (true-node net (first net i) (n .first-is i h), true-node net (second net i) (n .second-is i h)))
-
--- 8: no edge joins a node to itself
-pub different-accepted : (net : Network) → selfCheck net ≡ Accepted → (i : ℕ) → i < edges net → first net i ≡ second net i → ⊥
-unfolding selfCheck
-different-accepted net e i h = eqb-false _ _ (not-true _ (good-below selfJoined _ (edges net) e i h))
-
-pub different-accept : (net : Network) → ((i : ℕ) → i < edges net → first net i ≡ second net i → ⊥) → selfCheck net ≡ Accepted
-unfolding selfCheck
-different-accept net d = below-good selfJoined _ (edges net) (λ i h. simp (ne-eqb _ _ (d i h)))
 
 -- 9: every length is within its limits
 pub lengths-accepted : (net : Network) → lengthsCheck net ≡ Accepted → (i : ℕ) → i < edges net → Between 1 maxLength (size net i)

@@ -11,12 +11,12 @@ use Rattle.model.proofs.Laws.Refusal.{Between, both-accepted, both-acce
 use Rattle.model.specs.Checks.{networkLists, eventLists, networkValues, networkCheck, nodesOverNetworkCheck, locationsOverNetworkCheck, eventValues, setCheck, laidOutCheck, setsOverNetworkCheck, thresholdsCheck, layoutCheck}
 use Rattle.model.specs.Events.{event, events, IsEvent, InOrder, setSize, greatestSet}
 use Rattle.model.specs.Limits.{maxNodes, maxEdges, maxLength, maxEvents, maxSet, maxThresholds}
-use Rattle.model.specs.Network.{Network, IsNode, EndsAreNodes, edges, first, second, size}
+use Rattle.model.specs.Network.{Network, IsNode, EndsAreNodes, edges, size}
 use Rattle.model.specs.declared.check.Check.{Check}
 use Rattle.model.specs.declared.check.Check.the-variants.{Accepted}
 use Rattle.model.proofs.Laws.CheckParts as part
 
--- a network within its limits: what 2 and 6 to 9 leave
+-- a network within its limits: what 2, 6, 7 and 9 leave
 pub record IsNetwork (net : Network) : Type 0 where
   pub firsts-length : length (net .firsts) ≡ edges net
   pub seconds-length : length (net .seconds) ≡ edges net
@@ -25,7 +25,6 @@ pub record IsNetwork (net : Network) : Type 0 where
   pub edges-from : 1 ≤ edges net
   pub edges-to : edges net ≤ maxEdges
   pub ends : EndsAreNodes net
-  pub different : (i : ℕ) → i < edges net → first net i ≡ second net i → ⊥
   pub length-from : (i : ℕ) → i < edges net → 1 ≤ size net i
   pub length-to : (i : ℕ) → i < edges net → size net i ≤ maxLength
 
@@ -41,9 +40,8 @@ values-accepted lone net lists e =
     let from-6 = both-accepted _ _ e in
     let from-lone = both-accepted _ _ (from-6 .1) in
     let from-7 = both-accepted _ _ (from-lone .1) in
-    let from-8 = both-accepted _ _ (from-7 .1) in
     let sizes = part.sizes-accepted _ _ (from-6 .0) in
-    let long = part.lengths-accepted net (from-8 .1) in
+    let long = part.lengths-accepted net (from-7 .1) in
     record {
       is-network = record {
         firsts-length = of-lists .0;
@@ -53,7 +51,6 @@ values-accepted lone net lists e =
         edges-from = sizes .1 .from;
         edges-to = sizes .1 .to;
         ends = part.ends-accepted net (from-7 .0);
-        different = part.different-accepted net (from-8 .0);
         length-from = λ i h. long i h .from;
         length-to = λ i h. long i h .to;
       };
@@ -76,8 +73,7 @@ values-accept lone net n accepted =
     both-accept (part.sizes-accept _ _ (record { from = n .nodes-from; to = n .nodes-to }) (record { from = n .edges-from; to = n .edges-to }))
     (both-accept accepted
     (both-accept (part.ends-accept net (n .ends))
-    (both-accept (part.different-accept net (n .different))
-    (part.lengths-accept net (λ i h. record { from = n .length-from i h; to = n .length-to i h })))))
+    (part.lengths-accept net (λ i h. record { from = n .length-from i h; to = n .length-to i h }))))
 
 -- and back: nothing else is refused
 pub network-accepts : (net : Network) → IsNetwork net → networkCheck net ≡ Accepted

@@ -1,10 +1,10 @@
 -- The text of a network within the limits is accepted, and the network is read back from it.
 use mathlib.Core.Bool.{true, _||_, or-true}
 use mathlib.Core.List.{List, [], _∷_, _++_, map, append-nil}
-use mathlib.Core.Path.{_≡_, refl, sym, ap, _∙_}
+use mathlib.Core.Path.{_≡_, refl, ap, _∙_}
 use Prim.Native.Nat.{ℕ, suc, _+_, _*_, _%_, _≤_, _<_}
 use native.Mathlib.Omega.{arith}
-use borrow.Author.Tests.{eq-eqb, ne-eqb, lt-ltb}
+use borrow.Author.Tests.{eq-eqb, lt-ltb}
 use lib.Dec.{eqb}
 use lib.ListN.{length, getD, length-append}
 use lib.Seq.{append-snoc}
@@ -13,7 +13,7 @@ use Rattle.model.proofs.Laws.Refusal.{true-between}
 use Rattle.model.specs.Checks.{networkCheck}
 use Rattle.model.specs.Limits.{maxNodes, maxEdges, maxLength}
 use Rattle.model.specs.Network.{Network, network, edges, first, second, size}
-use Rattle.model.specs.Refusal.{badSizes, badNode, selfJoined, badLength}
+use Rattle.model.specs.Refusal.{badSizes, badNode, badLength}
 use Rattle.model.specs.declared.check.Check.the-variants.{Accepted}
 use Rattle.text.specs.Fields.{space}
 use Rattle.text.specs.Lines.{lineFeed, feedLines}
@@ -37,13 +37,12 @@ arc-plain : (a : ArcRead) → Plain lineFeed (arcLine a)
 unfolding arcLine lacks
 arc-plain a = record { free = numbered-lack lineFeed (omega arith) space refl (a .from ∷ a .to ∷ a .weight ∷ []); some = omega arith }
 
--- what 7 to 9 leave of an edge
+-- what 7 and 9 leave of an edge
 record IsEdge (nodes u v w : ℕ) : Type 0 where
   first-from : 1 ≤ u
   first-to : u ≤ nodes
   second-from : 1 ≤ v
   second-to : v ≤ nodes
-  different : u ≡ v → ⊥
   length-from : 1 ≤ w
   length-to : w ≤ maxLength
 
@@ -54,7 +53,6 @@ turned-edge e = record {
   first-to = e .second-to;
   second-from = e .first-from;
   second-to = e .first-to;
-  different = λ same. e .different (sym same);
   length-from = e .length-from;
   length-to = e .length-to;
 }
@@ -80,10 +78,9 @@ module _ (nodes arcs : ℕ) (few : nodes ≤ maxNodes) where
   arc-taken before u v w e turned room =
       ap (networkStep (reading nodes arcs before)) (arc-line (arc u v w) (omega (arith, e .first-to)) (omega (arith, e .second-to)) (omega (arith, e .length-to)))
       ∙ holds badNode (simp (true-between 1 nodes u (e .first-from) (e .first-to), true-between 1 nodes v (e .second-from) (e .second-to)))
-      (holds selfJoined (simp (ne-eqb u v (e .different)))
       (holds badLength (true-between 1 maxLength w (e .length-from) (e .length-to))
       (holds notTurned turned
-      (holds wrongArcs (lt-ltb (length before) arcs room) refl))))
+      (holds wrongArcs (lt-ltb (length before) arcs room) refl)))
 
   -- the two arcs of an edge behind whole edges, then those of the other edges
   arcs-taken : (us vs ws : List ℕ) (before : List ArcRead) (place : ℕ)
@@ -139,7 +136,6 @@ edge-at net is i h =
       first-to = u .to-nodes;
       second-from = v .from-one;
       second-to = v .to-nodes;
-      different = is .different i h;
       length-from = is .length-from i h;
       length-to = is .length-to i h;
     }

@@ -1,6 +1,6 @@
 use borrow.Author.Needs.{needs}
 use Rattle.model.proofs.Laws.Refusal.{stops-here, goes-on}
-use Rattle.model.specs.Checks.{networkValues, selfCheck, lengthsCheck}
+use Rattle.model.specs.Checks.{networkValues, lengthsCheck}
 use Rattle.validate.proofs.network.check_values.Statement.{statement}
 use Rattle.validate.proofs.network.check_values.Tie as tie
 
@@ -11,7 +11,7 @@ enum-told : tie.Need-enum-told
 enum-told c = search needs
 
 returns : tie.Need-returns
-unfolding networkValues selfCheck lengthsCheck
+unfolding networkValues lengthsCheck
 returns c = search (stops-here, goes-on) depth 9
 
 enum-told-2 : tie.Need-enum-told-2
@@ -21,7 +21,7 @@ enum-told-3 : tie.Need-enum-told-3
 enum-told-3 c = search needs
 
 returns-2 : tie.Need-returns-2
-unfolding networkValues selfCheck lengthsCheck
+unfolding networkValues lengthsCheck
 returns-2 c = search (stops-here, goes-on) depth 9
 
 enum-told-4 : tie.Need-enum-told-4
@@ -34,31 +34,18 @@ enum-told-5 : tie.Need-enum-told-5
 enum-told-5 c = search needs
 
 returns-3 : tie.Need-returns-3
-unfolding networkValues selfCheck lengthsCheck
+unfolding networkValues lengthsCheck
 returns-3 c = search (stops-here, goes-on) depth 9
 
 enum-told-6 : tie.Need-enum-told-6
 enum-told-6 c = search needs
 
-check-different-requires : tie.Need-check-different-requires
-check-different-requires c κs = search needs
-
-enum-told-7 : tie.Need-enum-told-7
-enum-told-7 c = search needs
-
-returns-4 : tie.Need-returns-4
-unfolding networkValues selfCheck lengthsCheck
-returns-4 c = search (stops-here, goes-on) depth 9
-
-enum-told-8 : tie.Need-enum-told-8
-enum-told-8 c = search needs
-
 check-lengths-requires : tie.Need-check-lengths-requires
 check-lengths-requires c κs = search needs
 
-returns-5 : tie.Need-returns-5
-unfolding networkValues selfCheck lengthsCheck
-returns-5 c = search (stops-here, goes-on) depth 9
+returns-4 : tie.Need-returns-4
+unfolding networkValues lengthsCheck
+returns-4 c = search (stops-here, goes-on) depth 9
 
 pub check-values-spec : {M : Type 1} → statement M
 check-values-spec =
@@ -75,9 +62,5 @@ check-values-spec =
     enum-told-5
     returns-3
     enum-told-6
-    check-different-requires
-    enum-told-7
-    returns-4
-    enum-told-8
     check-lengths-requires
-    returns-5)
+    returns-4)
