@@ -46,7 +46,7 @@ impl Faults {
         }
     }
 
-    /// 2, 6, 7, 8, 9 of network lists.
+    /// 2, 6, 7, 9 of network lists. A leg may join a node to itself.
     ///
     /// Doubtful: too many legs is a 6. The paper gives a surplus place only
     /// for 11, 15 and 18, so a 6 of lists always stands at 0.
@@ -65,11 +65,6 @@ impl Faults {
         for (place, &node) in seconds.iter().enumerate() {
             if node < 1 || node > nodes {
                 self.add(7, place as u64);
-            }
-        }
-        for (place, (first, second)) in firsts.iter().zip(seconds).enumerate() {
-            if first == second {
-                self.add(8, place as u64);
             }
         }
         for (place, &length) in lengths.iter().enumerate() {
@@ -204,7 +199,7 @@ pub fn odd_sized_set(sets: &[u32]) -> Option<u32> {
     sizes.iter().position(|&size| size != observed).map(|set| set as u32)
 }
 
-/// Network lists: 2, 6, 7, 8, 9.
+/// Network lists: 2, 6, 7, 9.
 pub fn check_network(nodes: u32, firsts: &[u32], seconds: &[u32], lengths: &[u32]) -> Result<(), Refusal> {
     let mut faults = Faults::new();
     faults.network(nodes, firsts, seconds, lengths);
@@ -243,7 +238,7 @@ pub fn check_network_locations(
     faults.result()
 }
 
-/// Network lists and the reports of all sets: 2, 6 to 9, 12 to 16.
+/// Network lists and the reports of all sets: 2, 6, 7, 9, 12 to 16.
 pub fn check_reports(
     nodes: u32,
     firsts: &[u32],
@@ -259,7 +254,7 @@ pub fn check_reports(
     faults.result()
 }
 
-/// Network lists and the reports of one set in any order: 2, 6 to 9, 13 to 15.
+/// Network lists and the reports of one set in any order: 2, 6, 7, 9, 13 to 15.
 pub fn check_one_set(
     nodes: u32,
     firsts: &[u32],
@@ -274,7 +269,7 @@ pub fn check_one_set(
     faults.result()
 }
 
-/// Network lists and one laid-out set: 2, 6 to 9, 13 to 15, 17.
+/// Network lists and one laid-out set: 2, 6, 7, 9, 13 to 15, 17.
 pub fn check_laid_out(
     nodes: u32,
     firsts: &[u32],

@@ -77,16 +77,55 @@ pub struct ReportInput {
     pub offsets: Vec<u32>,
 }
 
-/// A good network of 2 to `max_nodes` nodes and 1 to `max_legs` legs, each 1
-/// to `max_length` long. Parts that do not hang together, legs side by side
-/// and nodes without a leg come up by themselves when the numbers are small.
+/// A good network of 1 to `max_nodes` nodes and 1 to `max_legs` legs, each 1
+/// to `max_length` long, some of them loops. Parts that do not hang together,
+/// legs side by side and nodes without a leg come up by themselves when the
+/// numbers are small.
 pub fn network(rng: &mut Rng, max_nodes: u32, max_legs: usize, max_length: u32) -> NetworkInput {
-    let nodes = rng.between(2, max_nodes.clamp(2, MAX_NODES));
+    let nodes = rng.between(1, max_nodes.clamp(1, MAX_NODES));
     let legs = rng.between(1, max_legs.clamp(1, MAX_LEGS) as u32) as usize;
-    network_of(rng, nodes, legs, max_length)
+    let loops = if nodes == 1 { legs } else { rng.pick(&[0, 0, 1, 2, 4], 0).min(legs) };
+    let mut input = if loops < legs {
+        network_of(rng, nodes, legs - loops, max_length)
+    } else {
+        NetworkInput { nodes, firsts: Vec::new(), seconds: Vec::new(), lengths: Vec::new() }
+    };
+    add_loops(rng, &mut input, loops, max_length);
+    input
 }
 
-/// A good network of just so many nodes (at least 2) and legs.
+/// Puts so many loops, legs from a node to itself, among the legs of a network:
+/// the first of them in front of all legs, so that reports on few legs lie on a
+/// loop too, the others anywhere. Half of them are at the node of the loop
+/// before. Some are 1 m long, which have no place inside, and some as long as
+/// may be.
+pub fn add_loops(rng: &mut Rng, input: &mut NetworkInput, count: usize, max_length: u32) {
+    let mut node = rng.between(1, input.nodes);
+    for done in 0..count {
+        if rng.once_in(2) {
+            node = rng.between(1, input.nodes);
+        }
+        let at = if done == 0 { 0 } else { rng.index(input.lengths.len() + 1) };
+        let length = match rng.below(6) {
+            0 => 1,
+            1 => max_length,
+            _ => rng.between(1, max_length),
+        };
+        input.firsts.insert(at, node);
+        input.seconds.insert(at, node);
+        input.lengths.insert(at, length);
+    }
+}
+
+/// A ring network as below of which so many legs are loops.
+pub fn ring_with_loops(rng: &mut Rng, nodes: u32, legs: usize, loops: usize, max_length: u32) -> NetworkInput {
+    let mut input = ring_network(rng, nodes, legs - loops, max_length);
+    add_loops(rng, &mut input, loops, max_length);
+    input
+}
+
+/// A good network of just so many nodes (at least 2) and legs, none of them a
+/// loop.
 pub fn network_of(rng: &mut Rng, nodes: u32, legs: usize, max_length: u32) -> NetworkInput {
     let nodes = nodes.clamp(2, MAX_NODES);
     let max_length = max_length.clamp(1, MAX_LENGTH);
@@ -115,7 +154,8 @@ pub fn network_of(rng: &mut Rng, nodes: u32, legs: usize, max_length: u32) -> Ne
     input
 }
 
-/// A network that hangs together: a ring over all nodes, and more legs.
+/// A network that hangs together: a ring over all nodes, and more legs, none of
+/// them a loop.
 pub fn ring_network(rng: &mut Rng, nodes: u32, legs: usize, max_length: u32) -> NetworkInput {
     let mut input = network_of(rng, nodes, legs, max_length);
     let nodes = input.nodes;
@@ -132,7 +172,8 @@ pub fn ring_network(rng: &mut Rng, nodes: u32, legs: usize, max_length: u32) -> 
     input
 }
 
-/// Networks of other shapes, all nodes used, the legs in any order.
+/// Networks of other shapes, all nodes used, the legs in any order, none of them
+/// a loop.
 #[derive(Clone, Copy, Debug, PartialEq, Eq)]
 pub enum Shape {
     /// A ring and as many legs again.

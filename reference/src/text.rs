@@ -125,8 +125,8 @@ pub struct NetworkLists {
 
 /// Read a .gr text.
 ///
-/// Every arc line meets 7, 8 and 9 by itself, also a second or a surplus one,
-/// before 10 and 11. A surplus arc is never the second of two (M is even), so
+/// Every arc line meets 7 and 9 by itself, also a second or a surplus one,
+/// before 10 and 11. A leg from a node to itself is the same line twice. A surplus arc is never the second of two (M is even), so
 /// it cannot meet 10. An arc before the `p` line is a 5 whatever its fields
 /// are; a second `p` line is a 5 whatever its N and M are. Remarks may stand
 /// anywhere, also after the last arc.
@@ -151,9 +151,6 @@ pub fn parse_network(text: &[u8]) -> Result<NetworkLists, Refusal> {
             (Some(GrLine::Arc { from, to, weight }), Some((nodes, promised))) => {
                 if from < 1 || from > nodes || to < 1 || to > nodes {
                     return refuse(7, place);
-                }
-                if from == to {
-                    return refuse(8, place);
                 }
                 if !(1..=MAX_LENGTH).contains(&weight) {
                     return refuse(9, place);
@@ -222,7 +219,7 @@ pub struct ReportLists {
 /// Read a report text over lent network lists.
 ///
 /// Order: 1 (a fault of the text as a whole, and the first in checking order),
-/// faults of the lists (2, 6 to 9), the lines (3, 4, 12 to 15), then 16. A text
+/// faults of the lists (2, 6, 7, 9), the lines (3, 4, 12 to 15), then 16. A text
 /// of no lines is a 4 at line 1. In a surplus row 12 to 14 come before 15.
 pub fn parse_reports(
     text: &[u8],

@@ -5,6 +5,7 @@ mod common;
 use common::*;
 use reference::counts::{self, by, Mark, Method};
 use reference::distance::NodeTable;
+use reference::lists::MAX_LENGTH;
 use reference::model::{Network, Sets, Thresholds};
 use reference::random::{self, Rng};
 use reference::tuned;
@@ -50,7 +51,7 @@ fn methods_equal_the_naive_count() {
 fn methods_agree_on_larger_inputs() {
     let mut rng = Rng::new(22);
     for (sets, per_set, on_legs) in [(1, 400, 0), (1, 400, 9), (32, 16, 0), (3, 100, 2)] {
-        let input = random::ring_network(&mut rng, 60, 120, 1_000);
+        let input = random::ring_with_loops(&mut rng, 60, 120, 12, 1_000);
         let network = made(&input);
         let sets = sets_of(&network, &random::reports(&mut rng, &input, sets, per_set, on_legs));
         let thresholds = thresholds_of(&random::even_thresholds(64, 5_000));
@@ -187,5 +188,38 @@ fn equal_places_and_few_reports() {
     let sets = Sets::new(&network, &[0, 0, 0], &[2, 3, 4], &[4, 0, 0]).unwrap();
     for method in [Method::RangeQuery, Method::CountAugmentation, Method::NeighbourSharing] {
         assert_eq!(by(method, &network, &sets, &thresholds), vec![vec![6]]);
+    }
+}
+
+/// The networks that every comparison draws have loops of every kind.
+#[test]
+fn drawn_networks_have_loops() {
+    const KINDS: [&str; 7] =
+        ["any", "two at a node", "at a node of legs side by side", "with reports inside", "of 1 m", "of 1,000,000 m", "of a single node"];
+    let mut rng = Rng::new(25);
+    let mut seen = [0u32; KINDS.len()];
+    for _ in 0..4_000 {
+        let max_length = rng.pick(&[1, 9, MAX_LENGTH], 9);
+        let input = random::network(&mut rng, 8, 11, max_length);
+        let reports = random::reports(&mut rng, &input, 1, 12, 1);
+        let legs: Vec<(u32, u32)> = input.firsts.iter().zip(&input.seconds).map(|(&u, &v)| (u.min(v), u.max(v))).collect();
+        let loops: Vec<usize> = (0..legs.len()).filter(|&k| legs[k].0 == legs[k].1).collect();
+        let twice = |k: usize| legs.iter().filter(|&&leg| leg == legs[k]).count() > 1;
+        let beside = |node: u32| (0..legs.len()).any(|k| !loops.contains(&k) && twice(k) && (legs[k].0 == node || legs[k].1 == node));
+        let kinds = [
+            !loops.is_empty(),
+            loops.iter().any(|&k| twice(k)),
+            loops.iter().any(|&k| beside(legs[k].0)),
+            loops.contains(&0) && reports.offsets.iter().filter(|&&x| x > 0 && x < input.lengths[0]).count() > 5,
+            loops.iter().any(|&k| input.lengths[k] == 1),
+            loops.iter().any(|&k| input.lengths[k] == MAX_LENGTH),
+            input.nodes == 1,
+        ];
+        for (count, met) in seen.iter_mut().zip(kinds) {
+            *count += u32::from(met);
+        }
+    }
+    for (kind, count) in KINDS.iter().zip(seen) {
+        assert!(count > 100, "loops {kind}: {count}");
     }
 }

@@ -68,11 +68,13 @@ fn each_refusal() {
         (b"p sp 2 2050\n", "6,1"),
         (b"p sp 2 2\na 0 2 5\n", "7,2"),
         (b"p sp 2 2\na 1 3 5\n", "7,2"),
-        (b"p sp 2 2\na 2 2 5\n", "8,2"),
+        (b"p sp 2 2\na 2 2 0\n", "9,2"),
         (b"p sp 2 2\na 1 2 0\n", "9,2"),
         (b"p sp 2 2\na 1 2 1000001\n", "9,2"),
         (b"p sp 2 2\na 1 2 5\nc\na 1 2 5\n", "10,4"),
         (b"p sp 2 2\na 1 2 5\na 2 1 6\n", "10,3"),
+        (b"p sp 2 2\na 1 1 5\na 1 1 6\n", "10,3"),
+        (b"p sp 2 2\na 1 1 5\na 2 2 5\n", "10,3"),
         (b"p sp 2 2\na 1 2 5\na 2 1 5\na 1 2 5\n", "11,4"),
         (b"p sp 2 4\na 1 2 5\na 2 1 5\n", "11,4"),
         (b"p sp 2 2\na 1 2 5\n", "11,3"),
@@ -148,7 +150,7 @@ fn known_folders() {
     let folder = folder("known_folders");
     let lines: Vec<&str> = include_str!("folders/known.txt").lines().collect();
     let cases: Vec<&[&str]> = lines.chunks(6).collect();
-    assert_eq!(cases.len(), 21);
+    assert_eq!(cases.len(), 23);
     for case in cases {
         let [name, network, reports, thresholds, printed, ..] = case else { panic!("{case:?}") };
         let files = [network, reports, thresholds].map(|line| Text(unescaped(line)));
@@ -238,7 +240,7 @@ fn large_folders() {
         (40, 60, 32, 160, 4, 3, Short),
         (40, 60, 4, 1_000, 12, 6, Far),
     ] {
-        let input = random::ring_network(&mut rng, nodes, legs, 1_000);
+        let input = random::ring_with_loops(&mut rng, nodes, legs, legs / 10, 1_000);
         let reports = random::reports(&mut rng, &input, sets, per_set, on_legs);
         let files = [
             Text(random::network_text(&mut rng, &input)),
@@ -250,8 +252,8 @@ fn large_folders() {
     }
 }
 
-/// Networks of every shape with thresholds of every spread, on all legs and on
-/// few.
+/// Networks of every shape, with loops, and thresholds of every spread, on all
+/// legs and on few.
 #[test]
 fn every_shape() {
     let Some(proved) = program() else { return };
@@ -261,7 +263,8 @@ fn every_shape() {
         for spread in Spread::ALL {
             for (sets, per_set, on_legs, thresholds) in [(1, 2_000, 0, 64), (3, 600, 7, 5)] {
                 let length = rng.pick(&[9, 400, 20_000], 9);
-                let input = shape.network(&mut rng, 120, length);
+                let mut input = shape.network(&mut rng, 120, length);
+                random::add_loops(&mut rng, &mut input, 20, length);
                 let reports = random::reports(&mut rng, &input, sets, per_set, on_legs);
                 let files = [
                     Text(random::network_text(&mut rng, &input)),
@@ -301,7 +304,7 @@ fn file(rng: &mut Rng, written: Vec<u8>, damaged: bool, csv: bool) -> File {
 }
 
 /// The refusals that each file can meet.
-const REFUSALS: [&[u32]; 3] = [&[1, 3, 5, 6, 7, 8, 9, 10, 11], &[1, 3, 4, 12, 13, 14, 15, 16], &[1, 3, 4, 18, 19]];
+const REFUSALS: [&[u32]; 3] = [&[1, 3, 5, 6, 7, 9, 10, 11], &[1, 3, 4, 12, 13, 14, 15, 16], &[1, 3, 4, 18, 19]];
 
 #[test]
 fn random_folders() {

@@ -15,6 +15,10 @@ fn network_lists() {
     let ok = |nodes, firsts: &[u32], seconds: &[u32], lengths: &[u32]| check_network(nodes, firsts, seconds, lengths);
     assert_eq!(ok(2, &[1], &[2], &[1]), Ok(()));
     assert_eq!(ok(512, &[1], &[512], &[1_000_000]), Ok(()));
+    // Loops: a network of one node, and two at one node of several.
+    assert_eq!(ok(1, &[1], &[1], &[1]), Ok(()));
+    assert_eq!(ok(2, &[2, 1, 2], &[2, 2, 2], &[1_000_000, 1, 1]), Ok(()));
+    assert_eq!(ok(1, &[1, 2], &[1, 2], &[0, 1]), refused(7, 1));
     assert_eq!(ok(0, &[1, 1], &[1], &[0]), refused(2, 0));
     assert_eq!(ok(513, &[1], &[2], &[1]), refused(6, 0));
     assert_eq!(ok(0, &[1], &[2], &[1]), refused(6, 0));
@@ -24,7 +28,7 @@ fn network_lists() {
     // The lowest number decides, though its place is higher.
     assert_eq!(ok(2, &[1, 1, 3], &[1, 2, 2], &[0, 1, 1]), refused(7, 2));
     assert_eq!(ok(2, &[1, 1, 1], &[2, 2, 0], &[0, 1, 1]), refused(7, 2));
-    assert_eq!(ok(2, &[1, 2, 1], &[2, 2, 2], &[0, 1, 1]), refused(8, 1));
+    assert_eq!(ok(2, &[1, 2, 1], &[2, 2, 2], &[1, 1, 0]), refused(9, 2));
     assert_eq!(ok(2, &[1, 2, 1], &[2, 1, 2], &[1, 1_000_001, 0]), refused(9, 1));
 }
 
@@ -66,9 +70,9 @@ fn report_lists() {
     offsets[8_999] = 6;
     assert_eq!(check(&many(9_000, 0), &many(9_000, 1), &offsets), refused(14, 8_999));
     // The same network faults come before all of these.
-    assert_eq!(check_reports(2, &[1, 1], &[2, 1], &[5, 9], &[40], &[9], &[9]), refused(8, 1));
+    assert_eq!(check_reports(2, &[1, 1], &[2, 1], &[5, 0], &[40], &[9], &[9]), refused(9, 1));
     // But not before lists of different lengths.
-    assert_eq!(check_reports(2, &[1, 1], &[2, 1], &[5, 9], &[40], &[9], &[9, 9]), refused(2, 0));
+    assert_eq!(check_reports(2, &[1, 1], &[2, 1], &[5, 0], &[40], &[9], &[9, 9]), refused(2, 0));
 }
 
 #[test]
@@ -155,9 +159,6 @@ fn slow_reports(
     if let Some(k) = (0..count).find(|&k| bad(firsts[k]) || bad(seconds[k])) {
         return refused(7, k as u64);
     }
-    if let Some(k) = (0..count).find(|&k| firsts[k] == seconds[k]) {
-        return refused(8, k as u64);
-    }
     if let Some(k) = (0..count).find(|&k| !(1..=1_000_000).contains(&lengths[k])) {
         return refused(9, k as u64);
     }
@@ -201,7 +202,7 @@ fn damaged_lists_have_one_reading() {
         assert_eq!(told, slow_reports(n, f, s, l, &reports.sets, &reports.legs, &reports.offsets));
         seen[told.err().map_or(0, |refusal| refusal.number as usize)] += 1;
     }
-    for number in [0, 2, 6, 7, 8, 9, 12, 13, 14, 15, 16] {
+    for number in [0, 2, 6, 7, 9, 12, 13, 14, 15, 16] {
         assert!(seen[number] > 0, "no case met {number}: {seen:?}");
     }
 }

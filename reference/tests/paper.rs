@@ -1,4 +1,5 @@
-//! The paper's own cases: the full run, P1 to P10, and the 'run only' ones.
+//! The paper's own cases: the full run, P1 to P10, and the 'run only' ones; and
+//! the cases of a turning basin, a leg from a node to itself.
 
 mod common;
 
@@ -56,6 +57,33 @@ fn p10_the_way_round() {
     let thresholds = Thresholds::new(&[3, 4, 9, 10]).unwrap();
     for method in METHODS {
         assert_eq!(by(method, &network, &sets, &thresholds), vec![vec![0, 2, 2, 2]], "{method:?}");
+    }
+}
+
+/// Leg 1 from node 1 to itself, 10 m; leg 2 from node 1 to node 2, 4 m.
+#[test]
+fn turning_basin() {
+    let network = Network::new(2, &[1, 1], &[1, 2], &[10, 4]).unwrap();
+    let (table, adjacency) = (NodeTable::new(&network), Adjacency::new(&network));
+    let on = |leg: u32, offset: u32| Location { leg, offset };
+    for (a, b, metres) in [
+        (on(1, 2), on(1, 9), 3),
+        (on(1, 0), on(1, 10), 0),
+        (on(1, 3), on(2, 2), 5),
+        (on(1, 9), on(2, 2), 3),
+    ] {
+        assert_eq!(location_distance(&network, &table, a, b), Ok(Some(metres)), "{a:?} {b:?}");
+        assert_eq!(location_distance(&network, &table, b, a), Ok(Some(metres)), "{b:?} {a:?}");
+    }
+    for (offset, radius, count) in [(3, 0, 1), (3, 5, 2), (10, 4, 3), (10, 5, 1)] {
+        let centre = on(1, offset);
+        assert_eq!(perimeter_naive(&network, &table, centre, radius), Ok(count), "offset {offset}, radius {radius}");
+        assert_eq!(perimeter_closed(&network, &adjacency, centre, radius), Ok(count), "offset {offset}, radius {radius}");
+    }
+    let sets = Sets::new(&network, &[0, 0, 0], &[1, 1, 1], &[0, 5, 10]).unwrap();
+    let thresholds = Thresholds::new(&[0, 4, 5]).unwrap();
+    for method in METHODS {
+        assert_eq!(by(method, &network, &sets, &thresholds), vec![vec![2, 2, 6]], "{method:?}");
     }
 }
 

@@ -55,19 +55,37 @@ fn network_texts() {
     assert_eq!(read("p sp 2 2"), refused(11, 2));
     assert_eq!(read("p sp 2 2\na 3 3 0\n"), refused(7, 2));
     assert_eq!(read("p sp 2 2\na 0 1 0\n"), refused(7, 2));
-    assert_eq!(read("p sp 2 2\na 2 2 0\n"), refused(8, 2));
+    assert_eq!(read("p sp 2 2\na 2 2 0\n"), refused(9, 2));
     assert_eq!(read("p sp 2 2\na 1 2 0\n"), refused(9, 2));
     assert_eq!(read("p sp 2 2\na 1 2 1\n"), refused(11, 3));
     assert_eq!(read("p sp 2 2\na 1 2 1\na 1 2 1\n"), refused(10, 3));
     assert_eq!(read("p sp 2 2\na 1 2 1\na 2 1 2\n"), refused(10, 3));
     assert_eq!(read("p sp 2 2\na 1 2 1\na 2 1 0\n"), refused(9, 3));
-    assert_eq!(read("p sp 2 2\na 1 2 1\na 2 2 1\n"), refused(8, 3));
+    assert_eq!(read("p sp 2 2\na 1 2 1\na 2 2 1\n"), refused(10, 3));
     assert_eq!(read("p sp 2 2\na 1 2 1\na 3 1 1\n"), refused(7, 3));
     assert_eq!(read("p sp 2 2\na 1 2 1\na 2 1 1\na 1 2 1\n"), refused(11, 4));
     assert_eq!(read("p sp 2 2\na 1 2 1\na 2 1 1\na 1 2 0\n"), refused(9, 4));
     assert_eq!(read("p sp 2 2\na 1 2 1\na 2 1 1\na 1 2 1\nx"), refused(11, 4));
     assert_eq!(read("p sp 2 2\na 1 2 1\na 2 1 1\n\n"), refused(3, 4));
     assert_eq!(read("p sp 2 2\na 1 2 01\n"), refused(3, 2));
+}
+
+/// A leg from a node to itself is the same line twice.
+#[test]
+fn loops_in_texts() {
+    let read = |text: &str| parse_network(text.as_bytes());
+    let lists = |nodes: u32, firsts: &[u32], seconds: &[u32], lengths: &[u32]| {
+        Ok(NetworkLists { nodes, firsts: firsts.to_vec(), seconds: seconds.to_vec(), lengths: lengths.to_vec() })
+    };
+    assert_eq!(read("p sp 1 2\na 1 1 1000000\na 1 1 1000000\n"), lists(1, &[1], &[1], &[1_000_000]));
+    let basin = "p sp 2 6\na 1 1 10\nc\na 1 1 10\na 1 2 4\na 2 1 4\na 1 1 10\na 1 1 10";
+    assert_eq!(read(basin), lists(2, &[1, 1, 1], &[1, 2, 1], &[10, 4, 10]));
+    assert_eq!(read("p sp 2 2\na 1 1 10\na 1 1 9\n"), refused(10, 3));
+    assert_eq!(read("p sp 2 2\na 1 1 10\na 2 2 10\n"), refused(10, 3));
+    assert_eq!(read("p sp 2 2\na 1 1 10\na 1 2 10\n"), refused(10, 3));
+    assert_eq!(read("p sp 1 2\na 1 1 10\na 2 2 10\n"), refused(7, 3));
+    assert_eq!(read("p sp 1 2\na 1 1 10\n"), refused(11, 3));
+    assert_eq!(read("p sp 1 2\na 1 1 10\na 1 1 10\na 1 1 10\n"), refused(11, 4));
 }
 
 #[test]
@@ -100,8 +118,8 @@ fn report_texts() {
     assert_eq!(read(&many(8_192, "1,1,6\r\n")), refused(14, 8_194));
     assert_eq!(read(&many(8_192, "0,1,0\r\nx")), refused(15, 8_194));
     // The lists' faults come before those of lines, but not before 1.
-    let bad = |text: &[u8]| parse_reports(text, 2, &[1, 1], &[2, 1], &[5, 9]);
-    assert_eq!(bad(b""), refused(8, 1));
+    let bad = |text: &[u8]| parse_reports(text, 2, &[1, 1], &[2, 1], &[5, 0]);
+    assert_eq!(bad(b""), refused(9, 1));
     assert_eq!(bad(&[b'x'; 60_001]), refused(1, 0));
     assert_eq!(parse_reports(b"", 2, &[1, 1], &[2, 2], &[5]), refused(2, 0));
 }

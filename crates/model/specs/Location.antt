@@ -13,7 +13,8 @@ pub data Location : Type 0 where
   node : ℕ → Location
   inside : ℕ → ℕ → Location
 
--- the location at an offset from the first node of the edge at an index; the edge's ends are nodes
+-- the location at an offset from the first node of the edge at an index; the edge's ends are nodes. Where the edge joins a node to itself,
+-- offset 0 and the full length are that one node (laws in proofs/Laws/Loops).
 unfoldable pub locationOf : Network → ℕ → ℕ → Location
 locationOf net i offset =
     cond (eqb offset 0) (node (first net i)) (cond (eqb offset (size net i)) (node (second net i)) (inside i offset))
@@ -31,7 +32,7 @@ pub record End : Type 0 where
 abbrev pub end : ℕ → ℕ → End
 end at gap = record { at = at; gap = gap }
 
--- the two ends of the edge at index i, seen from an offset
+-- the two ends of the edge at index i, seen from an offset: one node with two gaps where the edge joins a node to itself
 unfoldable pub edgeEnds : Network → ℕ → ℕ → List End
 edgeEnds net i x = end (first net i) x ∷ end (second net i) (size net i - x) ∷ []
 

@@ -49,6 +49,7 @@ pub fn damage_network(rng: &mut Rng, input: &mut NetworkInput) {
             3 | 4 => damage_list(rng, &mut input.seconds),
             5 | 6 => damage_list(rng, &mut input.lengths),
             7 => {
+                // A leg becomes a loop, which is no fault.
                 let leg = rng.index(input.firsts.len());
                 if let (Some(&first), Some(second)) = (input.firsts.get(leg), input.seconds.get_mut(leg)) {
                     *second = first;

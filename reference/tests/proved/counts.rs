@@ -81,7 +81,7 @@ fn case(rng: &mut Rng, damaged: u64) -> Case {
 }
 
 /// 0 is no refusal.
-const REFUSALS: [u32; 13] = [0, 2, 6, 7, 8, 9, 12, 13, 14, 15, 16, 18, 19];
+const REFUSALS: [u32; 12] = [0, 2, 6, 7, 9, 12, 13, 14, 15, 16, 18, 19];
 
 #[test]
 fn good_and_damaged_lists() {
@@ -145,7 +145,6 @@ fn one_fault_at_a_time() {
             refused(6, 0, &|c| c.network.nodes = MAX_NODES + 1);
             refused(7, leg, &|c| c.network.firsts[leg] = 0);
             refused(7, leg, &|c| c.network.seconds[leg] = c.network.nodes + 1);
-            refused(8, leg, &|c| c.network.firsts[leg] = c.network.seconds[leg]);
             refused(9, leg, &|c| c.network.lengths[leg] = 0);
             refused(9, leg, &|c| c.network.lengths[leg] = MAX_LENGTH + 1);
             refused(12, at, &|c| {
@@ -186,7 +185,7 @@ fn at_the_limits() {
             (MAX_SET + 1, MAX_REPORTS / 32, 0, MAX_THRESHOLDS, Spread::Even),
             (MAX_SET + 1, MAX_REPORTS / 32, 9, 5, Spread::Far),
         ] {
-            let network = random::ring_network(&mut rng, MAX_NODES, MAX_LEGS, 1_000);
+            let network = random::ring_with_loops(&mut rng, MAX_NODES, MAX_LEGS, 64, 1_000);
             let reports = random::reports(&mut rng, &network, sets, per_set, on_legs);
             assert_eq!(reports.sets.len(), MAX_REPORTS);
             let thresholds = spread.thresholds(count, 1_000);

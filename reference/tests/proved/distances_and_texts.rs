@@ -108,7 +108,7 @@ fn rows_of_distances() {
         assert_eq!(answers, filled(&row, &old), "{input:?} from {source} within {bound}");
         met.note(&told);
     }
-    met.all(&[0, 2, 6, 7, 8, 9]);
+    met.all(&[0, 2, 6, 7, 9]);
 }
 
 #[test]
@@ -130,7 +130,7 @@ fn node_distances() {
         assert_eq!(told_bounded, expected.map(|found| found.1), "{input:?} from {u} to {v} within {bound}");
         met.note(&told);
     }
-    met.all(&[0, 2, 6, 7, 8, 9]);
+    met.all(&[0, 2, 6, 7, 9]);
 }
 
 #[test]
@@ -155,7 +155,7 @@ fn location_distances() {
         assert_eq!(told, expected, "{input:?} from {one:?} to {other:?}");
         met.note(&told);
     }
-    met.all(&[0, 2, 6, 7, 8, 9, 13, 14]);
+    met.all(&[0, 2, 6, 7, 9, 13, 14]);
 }
 
 #[test]
@@ -181,20 +181,20 @@ fn perimeter_counts() {
         assert_eq!(told, expected, "{input:?} around {centre:?} at {radius}");
         met.note(&told);
     }
-    met.all(&[0, 2, 6, 7, 8, 9, 13, 14]);
+    met.all(&[0, 2, 6, 7, 9, 13, 14]);
 }
 
 #[test]
 fn networks_at_the_limits() {
     let mut rng = Rng::new(106);
     for turn in 0..6 {
-        let mut input = random::ring_network(&mut rng, MAX_NODES, MAX_LEGS, MAX_LENGTH);
+        let mut input = random::ring_with_loops(&mut rng, MAX_NODES, MAX_LEGS, 64, MAX_LENGTH);
         if turn == 0 {
-            // A path of all nodes: the longest distance there is.
-            let path = MAX_NODES as usize - 1;
-            input.firsts.truncate(path);
-            input.seconds.truncate(path);
-            input.lengths = vec![MAX_LENGTH; path];
+            // A path of all nodes, the longest distance there is, and a loop at
+            // each of its ends.
+            input.firsts = (1..=MAX_NODES).chain([1]).collect();
+            input.seconds = (2..=MAX_NODES).chain([MAX_NODES, 1]).collect();
+            input.lengths = vec![MAX_LENGTH; MAX_NODES as usize + 1];
         }
         let network = made(&input);
         let adjacency = Adjacency::new(&network);
@@ -292,7 +292,7 @@ fn report_texts() {
         assert_eq!(lists, expected_lists, "{input:?} {:?}", String::from_utf8_lossy(&text));
         met.note(&told);
     }
-    met.all(&[0, 1, 2, 3, 4, 6, 7, 8, 9, 12, 13, 14, 15, 16]);
+    met.all(&[0, 1, 2, 3, 4, 6, 7, 9, 12, 13, 14, 15, 16]);
 }
 
 #[test]
@@ -321,7 +321,7 @@ fn network_texts() {
         assert_eq!(lists, expected_lists, "{:?}", String::from_utf8_lossy(&text));
         met.note(&told);
     }
-    met.all(&[0, 1, 2, 3, 5, 6, 7, 8, 9, 10, 11]);
+    met.all(&[0, 1, 2, 3, 5, 6, 7, 9, 10, 11]);
 }
 
 #[test]
@@ -346,5 +346,5 @@ fn tables_of_wanted_rows() {
         }
         assert_eq!(table, expected);
     }
-    met.all(&[0, 2, 6, 7, 8, 9]);
+    met.all(&[0, 2, 6, 7, 9]);
 }
