@@ -172,8 +172,7 @@ pub fn ring_network(rng: &mut Rng, nodes: u32, legs: usize, max_length: u32) -> 
     input
 }
 
-/// Networks of other shapes, all nodes used, the legs in any order, none of them
-/// a loop.
+/// Networks of other shapes, all nodes used, the legs in any order.
 #[derive(Clone, Copy, Debug, PartialEq, Eq)]
 pub enum Shape {
     /// A ring and as many legs again.
@@ -186,10 +185,12 @@ pub enum Shape {
     Path,
     /// Each node hangs on an earlier one.
     Tree,
+    /// A ring, and a loop at each node.
+    Basins,
 }
 
 impl Shape {
-    pub const ALL: [Shape; 5] = [Shape::Ring, Shape::Any, Shape::Grid, Shape::Path, Shape::Tree];
+    pub const ALL: [Shape; 6] = [Shape::Ring, Shape::Any, Shape::Grid, Shape::Path, Shape::Tree, Shape::Basins];
 
     pub fn name(self) -> &'static str {
         match self {
@@ -198,6 +199,7 @@ impl Shape {
             Shape::Grid => "grid",
             Shape::Path => "path",
             Shape::Tree => "tree",
+            Shape::Basins => "basins",
         }
     }
 
@@ -213,6 +215,7 @@ impl Shape {
                 .collect(),
             Shape::Path => (1..nodes).map(|node| (node, node + 1)).collect(),
             Shape::Tree => (2..=nodes).map(|node| (rng.between(1, node - 1), node)).collect(),
+            Shape::Basins => (1..=nodes).flat_map(|node| [(node, node % nodes + 1), (node, node)]).collect(),
         };
         if matches!(self, Shape::Ring | Shape::Any) {
             while ends.len() < 2 * nodes as usize {

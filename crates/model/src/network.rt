@@ -1,4 +1,5 @@
 // The sizes of a network, with the limits of its nodes, edges and lengths.
+ghost use mathlib.Core.Bool.{_&&_};
 ghost use mathlib.Core.Path.{_≡_};
 ghost use Rattle.model.specs.Limits.{maxLength};
 ghost use Rattle.model.specs.Refusal.{isBetween};
@@ -34,6 +35,16 @@ impl Network {
             return MadeNetwork::Refused(Check::BAD_SIZES, 0);
         }
         MadeNetwork::Made(Network { nodes, edges })
+    }
+
+    // 7: both numbers name nodes.
+    pub fn are_nodes(nodes: u32, u: u32, v: u32) -> bool
+        ensures { λ r. ⌜ r ≡ (isBetween 1 nodes u && isBetween 1 nodes v) ⌝ }
+    {
+        if !is_between(1, nodes as u64, u as u64) {
+            return false;
+        }
+        is_between(1, nodes as u64, v as u64)
     }
 
     // 9: a length from 1 to the limit.

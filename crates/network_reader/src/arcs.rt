@@ -41,21 +41,11 @@ fn are_sizes(nodes: u32, arcs: u32) -> bool
     model::is_between(2, 2 * Network::MAX_EDGES as u64, arcs as u64)
 }
 
-// 7: both numbers name nodes.
-fn are_nodes(nodes: u32, from: u32, to: u32) -> bool
-    ensures { λ r. ⌜ r ≡ (isBetween 1 nodes from && isBetween 1 nodes to) ⌝ }
-{
-    if !model::is_between(1, nodes as u64, from as u64) {
-        return false;
-    }
-    model::is_between(1, nodes as u64, to as u64)
-}
-
 // 7 and 9 for one arc.
 fn check_arc(nodes: u32, from: u32, to: u32, weight: u32) -> LineRead
     ensures { λ r. ⌜ ArcChecked nodes (arc from to weight) r ⌝ }
 {
-    if !are_nodes(nodes, from, to) {
+    if !Network::are_nodes(nodes, from, to) {
         return LineRead::Refused(Check::BAD_NODE);
     }
     if !Network::is_length(weight) {
@@ -153,7 +143,7 @@ fn take_problem(seen: Seen, nodes: u32, arcs: u32) -> ArcStep
     ArcStep::Taken(Seen::Arcs(nodes, arcs, 0))
 }
 
-// An arc: 5 where no `p` line came before, then 7 to 11.
+// An arc: 5 where no `p` line came before, then 7 and 9 to 11.
 fn take_next(
     seen: Seen,
     from: u32,

@@ -1,9 +1,8 @@
 // Refusals 2, 6, 7 and 9: the lists of a network.
 ghost use mathlib.Core.Path.{_≡_};
-ghost use mathlib.Core.Bool.{_&&_};
 ghost use lib.ListN.{length};
 ghost use Rattle.model.specs.Network.{network};
-ghost use Rattle.model.specs.Refusal.{isBetween, orElse};
+ghost use Rattle.model.specs.Refusal.{orElse};
 ghost use Rattle.validate.specs.Part.{withNodes, withLengths, withEdges};
 ghost use Rattle.model.specs.Checks.{networkLists, networkValues, sizesCheck, nodesCheck, lengthsCheck, loneNodeCheck};
 use crate::number::names_one;
@@ -33,16 +32,6 @@ fn check_sizes(nodes: u32, edges: usize) -> Check
     }
 }
 
-// Both numbers name nodes.
-fn are_nodes(nodes: u32, u: u32, v: u32) -> bool
-    ensures { λ r. ⌜ r ≡ isBetween 1 nodes u && isBetween 1 nodes v ⌝ }
-{
-    if !names_one(nodes as u64, u) {
-        return false;
-    }
-    names_one(nodes as u64, v)
-}
-
 // 7: an edge ends at no node.
 fn check_ends(nodes: u32, firsts: &[u32], seconds: &[u32], lengths: &[u32]) -> Check
     requires { ⌜ (length (now firsts) ≡ length (now lengths)) × (length (now seconds) ≡ length (now lengths)) ⌝ }
@@ -50,7 +39,7 @@ fn check_ends(nodes: u32, firsts: &[u32], seconds: &[u32], lengths: &[u32]) -> C
 {
     let mut k = 0;
     while k < lengths.len() {
-        if !are_nodes(nodes, firsts[k], seconds[k]) {
+        if !Network::are_nodes(nodes, firsts[k], seconds[k]) {
             return Check::Refused(Check::BAD_NODE, k);
         }
         k += 1;

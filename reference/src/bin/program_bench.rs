@@ -36,7 +36,7 @@ struct Case {
 }
 
 #[rustfmt::skip]
-const CASES: [Case; 27] = [
+const CASES: [Case; 30] = [
     Case { what: "tiny", nodes: 4, legs: 4, shape: None, longest: 9, sets: 3, per_set: 4, on_legs: 0, thresholds: 4, spread: Even },
     Case { what: "reports 0", nodes: 512, legs: 1_024, shape: None, longest: 999, sets: 1, per_set: 900, on_legs: 0, thresholds: 64, spread: Even },
     Case { what: "reports 1", nodes: 512, legs: 1_024, shape: None, longest: 999, sets: 1, per_set: 1_000, on_legs: 0, thresholds: 64, spread: Even },
@@ -64,6 +64,9 @@ const CASES: [Case; 27] = [
     Case { what: "few legs 5", nodes: 512, legs: 1_024, shape: None, longest: 9, sets: 32, per_set: 240, on_legs: 9, thresholds: 1, spread: Even },
     Case { what: "one leg 1", nodes: 512, legs: 1_024, shape: None, longest: 9, sets: 1, per_set: 8_192, on_legs: 1, thresholds: 64, spread: Even },
     Case { what: "one leg 2", nodes: 512, legs: 1_024, shape: None, longest: 9, sets: 32, per_set: 240, on_legs: 1, thresholds: 64, spread: Even },
+    Case { what: "loops 1", nodes: 512, legs: 1_024, shape: Some(Shape::Basins), longest: 999, sets: 1, per_set: 5_000, on_legs: 0, thresholds: 64, spread: Even },
+    Case { what: "loops 2", nodes: 512, legs: 1_024, shape: Some(Shape::Basins), longest: 9, sets: 1, per_set: 8_192, on_legs: 9, thresholds: 64, spread: Even },
+    Case { what: "loops 3", nodes: 512, legs: 1_024, shape: Some(Shape::Basins), longest: 999, sets: 32, per_set: 155, on_legs: 0, thresholds: 64, spread: Even },
 ];
 
 /// What a line of this word is of.
