@@ -1,4 +1,4 @@
--- Document 01's proved cases, P1 to P10, as one table of the definitions; and a second table with an edge that joins a node to itself.
+-- Document 01's proved cases, P1 to P10, as one table of the definitions; and a second table with a loop.
 use mathlib.Core.List.{List, [], _∷_, map}
 use mathlib.Core.Path.{_≡_, refl}
 use Prim.Native.Nat.{ℕ}
@@ -51,11 +51,11 @@ pub record Cases : Type 0 where
 abbrev pub basin : Network
 basin = network 2 (1 ∷ 1 ∷ []) (1 ∷ 2 ∷ []) (10 ∷ 4 ∷ [])
 
--- around a centre on its edge 1
+-- the perimeter count around the location at an offset of the basin's edge 1
 abbrev pub aroundBasin : ℕ → ℕ → ℕ
 aroundBasin offset radius = perimeterCount basin (locationOf basin 0 offset) radius
 
--- three events on its edge 1: at the node by either offset, and half way round
+-- three events on its edge 1: two at the node, by offset 0 and by the full length, and one half way round
 abbrev pub basinEvents : List Event
 basinEvents = events (1 ∷ 1 ∷ 1 ∷ []) (0 ∷ 5 ∷ 10 ∷ [])
 
@@ -64,8 +64,8 @@ pub record LoopCases : Type 0 where
   pub one-place : locationOf basin 0 0 ≡ locationOf basin 0 10
   pub by-the-node : eventDistance basin (event 1 2) (event 1 9) ≡ metres 3
   pub at-the-node : eventDistance basin (event 1 0) (event 1 10) ≡ metres 0
-  pub by-the-near-gap : eventDistance basin (event 1 3) (event 2 2) ≡ metres 5
-  pub by-the-far-gap : eventDistance basin (event 1 9) (event 2 2) ≡ metres 3
+  pub by-the-first-end : eventDistance basin (event 1 3) (event 2 2) ≡ metres 5
+  pub by-the-second-end : eventDistance basin (event 1 9) (event 2 2) ≡ metres 3
   pub around-inside : map (aroundBasin 3) (0 ∷ 5 ∷ []) ≡ 1 ∷ 2 ∷ []
   pub around-node : map (aroundBasin 10) (4 ∷ 5 ∷ []) ≡ 3 ∷ 1 ∷ []
   pub pairs : map (pairCount basin basinEvents) (0 ∷ 4 ∷ 5 ∷ []) ≡ 2 ∷ 2 ∷ 6 ∷ []

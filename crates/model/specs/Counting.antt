@@ -25,8 +25,8 @@ unfoldable pub countIf : {A : Type 0} → (A → Bool) → List A → ℕ
 countIf test [] = 0
 countIf test (x ∷ xs) = one-if (test x) + countIf test xs
 
--- how many of n positions are among the first p, among the last q, or from `below` up to before `upto` (which is no less), each counted
--- once
+-- how many of n positions are among the first p, among the last q, or from `below` on and before `upto`, where `below` is at most
+-- `upto`, each counted once
 abbrev pub covered : ℕ → ℕ → ℕ → ℕ → ℕ → ℕ
 covered n p q below upto = n - (min below (n - q) - p) - ((n - q) - max upto p)
 

@@ -16,7 +16,7 @@ maxLength = 1000000
 abbrev pub maxEvents : ℕ
 maxEvents = 8192
 
--- their ordered pairs, each event with itself too: no count is greater
+-- the ordered pairs of so many events, an event with itself included: no pair count is greater
 abbrev pub maxPairs : ℕ
 maxPairs = maxEvents * maxEvents
 

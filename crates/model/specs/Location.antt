@@ -13,8 +13,8 @@ pub data Location : Type 0 where
   node : ℕ → Location
   inside : ℕ → ℕ → Location
 
--- the location at an offset from the first node of the edge at an index; the edge's ends are nodes. Where the edge joins a node to itself,
--- offset 0 and the full length are that one node (laws in proofs/Laws/Loops).
+-- the location at an offset from the first node of the edge at an index; the edge's ends are nodes. Of a loop
+-- offset 0 and the full length are one node (proofs/Laws/Loops).
 unfoldable pub locationOf : Network → ℕ → ℕ → Location
 locationOf net i offset =
     cond (eqb offset 0) (node (first net i)) (cond (eqb offset (size net i)) (node (second net i)) (inside i offset))
@@ -24,7 +24,7 @@ pub data IsLocation (net : Network) : Location → Type 0 where
   a-node : {v : ℕ} → IsNode net v → IsLocation net (node v)
   an-inside : {i x : ℕ} → i < edges net → 1 ≤ x → x < size net i → IsLocation net (inside i x)
 
--- a node where a walk may leave a location, and the gap: the metres to it along the location's own edge
+-- a node where a walk may leave a location, and the gap: the metres to it along the location's own edge in one direction
 pub record End : Type 0 where
   pub at : ℕ
   pub gap : ℕ
@@ -32,7 +32,7 @@ pub record End : Type 0 where
 abbrev pub end : ℕ → ℕ → End
 end at gap = record { at = at; gap = gap }
 
--- the two ends of the edge at index i, seen from an offset: one node with two gaps where the edge joins a node to itself
+-- the two ends of the edge at index i, seen from an offset: of a loop one node with two gaps
 unfoldable pub edgeEnds : Network → ℕ → ℕ → List End
 edgeEnds net i x = end (first net i) x ∷ end (second net i) (size net i - x) ∷ []
 
@@ -75,15 +75,15 @@ locationDistance net p q = least (routes net (ends net p) (ends net q)) (stretch
 abbrev pub IsLocationDistance : Network → Location → Location → Distance → Type 0
 IsLocationDistance net p q d = IsLeast (LocationWalk net p q) d
 
--- the distance of two edges with an offset each, where every offset, also one at a node, has a gap to both ends of its edge: what the
--- counting methods use.
+-- the distance of two locations, each given by an edge and an offset; every offset, one at a node too, has a gap to both ends of its edge.
+-- The counting methods use this form.
 -- Law (proofs/Laws/Location, `edge-distance`): where every edge ends at nodes, it is the distance of the
 -- locations at the two offsets.
 unfoldable pub edgeDistance : Network → ℕ → ℕ → ℕ → ℕ → Distance
 edgeDistance net i x j y =
     least (routes net (edgeEnds net i x) (edgeEnds net j y)) (alongEdge (eqb i j) x y)
 
--- the two ends of an edge, as a parameter: the node there, and an offset's gap to it (on a node too)
+-- which end of an edge is meant; the node at that end, and the gap to it from an offset (also from one at a node)
 pub data Side : Type 0 where
   at-first : Side
   at-second : Side
@@ -96,6 +96,6 @@ unfoldable pub gap : ℕ → Side → ℕ → ℕ
 gap size at-first x = x
 gap size at-second x = size - x
 
--- one of the four routes reaches: the gap of the first, the distance and the gap of the second add up to no more than t
+-- whether a route reaches: the gap of the first, the node distance and the gap of the second add up to no more than t
 unfoldable pub reaches : ℕ → ℕ → Distance → ℕ → Bool
 reaches t a d b = within (plus (plus (metres a) d) (metres b)) t

@@ -1,7 +1,7 @@
 -- A network as it is lent: the number of nodes, and for each edge (01: leg) its first node, second node and length.
 -- Nodes and edges are numbered from 1; edge k is index k - 1 of the lists. The definitions of walks, distances and locations speak of
 -- indices; an event, or an edge that is asked about, is named by its number. Several edges may join the same two nodes, and an edge may
--- join a node to itself (02: a turning basin).
+-- join a node to itself: a loop (02: a turning basin).
 use mathlib.Core.List.{List}
 use Prim.Native.Nat.{ℕ, _≤_, _<_}
 use lib.ListN.{length, getD}

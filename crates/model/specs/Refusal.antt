@@ -36,7 +36,7 @@ placeOf (Refused number place) = place
 unfoldable pub isBetween : ℕ → ℕ → ℕ → Bool
 isBetween low high n = leb low n && leb n high
 
--- 01's numbers for lists. (1, 3 to 5, 10 and 11 are met by texts alone; 8 is unused, for an edge may join a node to itself.)
+-- 01's numbers for lists. (1, 3 to 5, 10 and 11 are met by texts alone; 8 no longer occurs: 02, item 3.)
 abbrev pub listsDiffer : ℕ
 listsDiffer = 2
 

@@ -63,13 +63,13 @@ pub data NetworkState : Type 0 where
   before-problem : NetworkState
   reading : ℕ → ℕ → List ArcRead → NetworkState
 
--- this arc is the last one of the list turned round; of an empty list nothing is asked
+-- this arc is the last one of the list turned round (of a loop it is the same arc again); of an empty list nothing is asked
 unfoldable pub turnsLast : List ArcRead → ArcRead → Bool
 turnsLast [] b = true
 turnsLast (a ∷ []) b = eqb (a .from) (b .to) && (eqb (a .to) (b .from) && eqb (a .weight) (b .weight))
 turnsLast (a ∷ a′ ∷ more) b = turnsLast (a′ ∷ more) b
 
--- 7 and 9 to 11 for one more arc: 10 is asked of every second one
+-- 7 and 9 to 11 for one more arc: 10 is asked of every second one (8 no longer occurs: 02, item 3)
 unfoldable pub takeArc : ℕ → ℕ → List ArcRead → ArcRead → Step NetworkState
 takeArc nodes arcs before b =
     require (isBetween 1 nodes (b .from) && isBetween 1 nodes (b .to)) badNode

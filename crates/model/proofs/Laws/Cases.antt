@@ -18,4 +18,4 @@ cases = record { p1-to-p4 = refl; p5-to-p9 = refl; p10 = refl }
 
 pub loop-cases : LoopCases
 unfolding sumBelow one-if countBelow countIf numbersFrom least plus leastOf leastBelow within exactly difference crossing direct through nodeDistance locationOf edgeEnds ends route routes alongEdge stretch locationDistance events eventLocation eventDistance isPair pairCount insides locations perimeterCount orElse unless firstBad firstBadFrom isBetween sameLength sizesCheck nodesCheck lengthsCheck networkLists networkValues networkCheck
-loop-cases = record { accepted = refl; one-place = refl; by-the-node = refl; at-the-node = refl; by-the-near-gap = refl; by-the-far-gap = refl; around-inside = refl; around-node = refl; pairs = refl }
+loop-cases = record { accepted = refl; one-place = refl; by-the-node = refl; at-the-node = refl; by-the-first-end = refl; by-the-second-end = refl; around-inside = refl; around-node = refl; pairs = refl }
