@@ -1,9 +1,9 @@
 -- Document 01's proved cases, P1 to P10, as one table of the definitions; and a second table with a loop.
 use mathlib.Core.List.{List, [], _∷_, map}
-use mathlib.Core.Path.{_≡_, refl}
+use mathlib.Core.Path.{_≡_}
 use Prim.Native.Nat.{ℕ}
 use Rattle.model.specs.Network.{Network, network}
-use Rattle.model.specs.Distance.{Distance, metres}
+use Rattle.model.specs.Distance.{metres}
 use Rattle.model.specs.Location.{locationOf}
 use Rattle.model.specs.Events.{Event, event, events}
 use Rattle.model.specs.PairCount.{pairCount, eventDistance}

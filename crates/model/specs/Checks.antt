@@ -1,6 +1,6 @@
 -- The checks of lent lists: document 01's list, read from top to bottom, then put together in its order.
 -- The lowest number decides, then the lowest place. Number 8 no longer occurs (02, item 3).
-use mathlib.Core.Bool.{Bool, _&&_, not}
+use mathlib.Core.Bool.{_&&_, not}
 use mathlib.Core.List.{List}
 use Prim.Native.Nat.{ℕ, pred}
 use lib.Dec.{eqb, leb, ltb}

@@ -7,7 +7,6 @@ use Prim.Native.Nat.{ℕ, _+_, _-_, _≤_, _<_, min}
 use native.Mathlib.Omega.{arith}
 use native.Mathlib.Decide.{decLe}
 use borrow.Author.Tests.{eq-eqb, ne-eqb}
-use lib.Dec.{eqb}
 use Rattle.model.specs.Distance.{Distance, metres, none, least, plus, leastOf, difference}
 use Rattle.model.specs.Location.{Location, node, inside, locationOf, End, end, edgeEnds, ends, route, routes, alongEdge, stretch, locationDistance}
 use Rattle.model.specs.Network.{Network, EndsAreNodes, edges, first, second, size}
