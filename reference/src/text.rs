@@ -126,10 +126,11 @@ pub struct NetworkLists {
 /// Read a .gr text.
 ///
 /// Every arc line meets 7 and 9 by itself, also a second or a surplus one,
-/// before 10 and 11. A leg from a node to itself is the same line twice. A surplus arc is never the second of two (M is even), so
-/// it cannot meet 10. An arc before the `p` line is a 5 whatever its fields
-/// are; a second `p` line is a 5 whatever its N and M are. Remarks may stand
-/// anywhere, also after the last arc.
+/// before 10 and 11. A leg from a node to itself is the same line twice. A
+/// surplus arc is never the second of two (M is even), so it cannot meet 10. An
+/// arc before the `p` line is a 5 whatever its fields are; a second `p` line is
+/// a 5 whatever its N and M are. Remarks may stand anywhere, also after the last
+/// arc.
 pub fn parse_network(text: &[u8]) -> Result<NetworkLists, Refusal> {
     check_size(text)?;
     let lines = gr_lines(text);

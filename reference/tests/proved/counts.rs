@@ -123,6 +123,12 @@ fn one_fault_at_a_time() {
             assert!(good.compare(proved, plain).is_ok());
             let legs = good.network.lengths.len();
             let (leg, at) = (rng.index(legs), rng.index(good.reports.sets.len()));
+            // No fault: a leg that leads back to its own node.
+            let mut looped = good.clone();
+            looped.network.firsts[leg] = looped.network.seconds[leg];
+            let told = looped.compare(proved, plain).expect("counts");
+            let naive = looped.naive();
+            assert_eq!(told[..naive.len()], naive, "{plain:?} {looped:?}");
             let refused = |number: u32, place: usize, change: &dyn Fn(&mut Case)| {
                 let mut bad = good.clone();
                 change(&mut bad);

@@ -1,12 +1,14 @@
 -- What the definitions say of a loop, an edge that joins a node to itself: offset 0 and the full length are one location, the node; the
 -- distance of two locations on it is the shorter of the two ways round; and from elsewhere they are reached by way of the node, by the
 -- shorter of their two gaps to it.
+use mathlib.Core.Bool.{Bool, true, false, cond}
 use mathlib.Core.List.{List, [], _∷_, map}
 use mathlib.Core.Path.{_≡_, refl, sym, ap, ap₂, _∙_}
 use Prim.Native.Nat.{ℕ, _+_, _-_, _≤_, _<_, min}
 use native.Mathlib.Omega.{arith}
 use native.Mathlib.Decide.{decLe}
 use borrow.Author.Tests.{eq-eqb, ne-eqb}
+use lib.Dec.{eqb}
 use Rattle.model.specs.Distance.{Distance, metres, none, least, plus, leastOf, difference}
 use Rattle.model.specs.Location.{Location, node, inside, locationOf, End, end, edgeEnds, ends, route, routes, alongEdge, stretch, locationDistance}
 use Rattle.model.specs.Network.{Network, EndsAreNodes, edges, first, second, size}
@@ -65,6 +67,11 @@ from-node : (net : Network) (v : ℕ) (q : Location) → locationDistance net (n
 unfolding locationDistance routes ends stretch
 from-node net v q = least-none _ ∙ least-none _
 
+-- a choice between a location and itself
+either-way : (b : Bool) (p : Location) → cond b p p ≡ p
+either-way true p = refl
+either-way false p = refl
+
 -- no stretch leads from an edge to a location that is not inside it
 no-stretch : (i x : ℕ) (q : Location) → ((y : ℕ) → q ≡ inside i y → ⊥) → stretch (inside i x) q ≡ none
 unfolding stretch alongEdge
@@ -83,10 +90,11 @@ module _ {net : Network} {i v : ℕ} where
   loop-begins j = ap node (loop-ends j .0)
 
   -- and so is the full length
-  pub loop-closes : Joins net i v v → 1 ≤ size net i → locationOf net i (size net i) ≡ node v
+  pub loop-closes : Joins net i v v → locationOf net i (size net i) ≡ node v
   unfolding locationOf
-  loop-closes j h = rw (ne-eqb (size net i) 0 (omega arith), eq-eqb (size net i) (size net i) refl) (ap node (loop-ends j .1))
+  loop-closes j = rw (loop-ends j .0, loop-ends j .1, eq-eqb (size net i) (size net i) refl) (either-way (eqb (size net i) 0) (node v))
 
+  -- the shorter of the two ways round, for offsets seen as inside the edge
   inside-round : Joins net i v v → (x y : ℕ) → x ≤ size net i → y ≤ size net i → locationDistance net (inside i x) (inside i y) ≡ metres (min (difference x y) (size net i - difference x y))
   unfolding locationDistance routes ends edgeEnds leastOf route stretch alongEdge least plus difference
   inside-round j x y h k = rw (loop-ends j .0, loop-ends j .1, node-self, eq-eqb i i refl) (ap metres (round x y (size net i) h k))
