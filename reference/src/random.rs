@@ -1,11 +1,13 @@
 //! Random inputs, good and damaged, for comparing and timing.
 
 mod damage;
+mod gathered;
 mod texts;
 
 use crate::lists::{MAX_LEGS, MAX_LENGTH, MAX_NODES, MAX_REPORTS, MAX_SET, MAX_THRESHOLDS};
 
 pub use damage::*;
+pub use gathered::*;
 pub use texts::*;
 
 /// A xorshift generator (64 bits, multiplied on the way out).
@@ -247,18 +249,30 @@ fn offset(rng: &mut Rng, length: u32) -> u32 {
 /// Good reports: `sets` sets of `per_set` each, mixed in order, on the first
 /// `on_legs` legs (all of them if that is 0). Repeats are likely.
 pub fn reports(rng: &mut Rng, network: &NetworkInput, sets: u32, per_set: usize, on_legs: usize) -> ReportInput {
+    reports_drawn(rng, network, sets, per_set, |rng, legs| match on_legs {
+        0 => rng.index(legs),
+        some => rng.index(some.min(legs)),
+    })
+}
+
+/// The same, with the index of each report's leg drawn in some way from the
+/// number of legs.
+fn reports_drawn(
+    rng: &mut Rng,
+    network: &NetworkInput,
+    sets: u32,
+    per_set: usize,
+    index_of: impl Fn(&mut Rng, usize) -> usize,
+) -> ReportInput {
     let mut input = ReportInput { sets: Vec::new(), legs: Vec::new(), offsets: Vec::new() };
-    let legs = match on_legs {
-        0 => network.lengths.len(),
-        some => some.min(network.lengths.len()),
-    };
+    let legs = network.lengths.len();
     let sets = sets.clamp(1, MAX_SET + 1);
     let per_set = per_set.min(MAX_REPORTS / sets as usize);
     if legs == 0 {
         return input;
     }
     for count in 0..sets as usize * per_set {
-        let index = rng.index(legs);
+        let index = index_of(rng, legs);
         let mut report = (index as u32 + 1, offset(rng, network.lengths[index]));
         if count > 0 && rng.once_in(10) {
             let old = rng.index(count);

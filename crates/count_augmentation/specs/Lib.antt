@@ -1,7 +1,7 @@
--- The stored numbers of count augmentation, and the promise of the function that makes them; then what inner functions keep.
+-- The stored numbers of count augmentation, the promise of the function that makes them for all events, and what is looked up of them;
+-- then what inner functions keep.
 pub mod Augmented
 pub mod Storing
-pub mod Reach
-pub mod Pairs
-pub mod Runs
+pub mod LookUp
+pub mod Thresholds
 pub mod Events

@@ -4,7 +4,7 @@ ghost use lib.ListN.{length};
 ghost use Rattle.model.specs.Network.{network};
 ghost use Rattle.count_augmentation.specs.Augmented.{augmentCheck, Augmented};
 ghost use Rattle.count_augmentation.specs.Events.{LaidOut, EventsStored};
-use crate::store::store;
+use crate::storing::store;
 use model::Check;
 use model::equals_end;
 

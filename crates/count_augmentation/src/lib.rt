@@ -3,10 +3,9 @@ mod events;
 mod look_up;
 mod pairs;
 mod reach;
-mod runs;
-mod sets;
-mod store;
-mod totals;
+mod storing;
+mod thresholds;
 
 pub use events::augment;
-pub use sets::counts;
+pub use pairs::add_pairs;
+pub use storing::store;

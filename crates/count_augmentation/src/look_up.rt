@@ -1,11 +1,11 @@
 // The stored numbers looked up by binary search.
 ghost use mathlib.Core.Bool.{cond};
 ghost use mathlib.Core.Path.{_≡_};
-ghost use Prim.Native.Nat.{_/_, _≤_};
+ghost use Prim.Native.Nat.{_+_, _/_, _≤_};
 ghost use lib.Dec.{ltb};
 ghost use lib.ListN.{length};
-ghost use Rattle.prepare.specs.Offsets.{Ordered};
-ghost use Rattle.count_augmentation.specs.Storing.{Bracket, Parted, storedLast, readBelow, readFrom};
+ghost use Rattle.count_augmentation.specs.LookUp.{halfWay, placeAmong, placeOf, storedLast, readBelow, readFrom};
+use model::value_at;
 
 // So many places are halved away by four halvings.
 const LAST_FEW: usize = 15;
@@ -19,8 +19,8 @@ fn passed(offset: u32, limit: u64, places: usize) -> usize
 
 // Halves the places among which the first whose offset is not below a limit is looked for.
 fn halve(offsets: &[u32], limit: u64, low: usize, left: usize) -> usize
-    requires { ⌜ Ordered (now offsets) × Bracket (now offsets) limit low left × (1 ≤ left) ⌝ }
-    ensures { λ r. ⌜ Bracket (now (offsets .entry)) limit r (left / 2) ⌝ }
+    requires { ⌜ (low + left ≤ length (now offsets)) × (1 ≤ left) ⌝ }
+    ensures { λ r. ⌜ (r ≡ halfWay (now (offsets .entry)) limit low left) × (r + left / 2 ≤ length (now (offsets .entry))) ⌝ }
 {
     let half = left - left / 2;
     low + passed(offsets[low + half - 1], limit, half)
@@ -28,8 +28,8 @@ fn halve(offsets: &[u32], limit: u64, low: usize, left: usize) -> usize
 
 // That place, with at most LAST_FEW places left to look at: four halvings. No loop, so that it compiles with no branch on what is found.
 fn place_among(offsets: &[u32], limit: u64, low: usize, left: usize) -> usize
-    requires { ⌜ Ordered (now offsets) × Bracket (now offsets) limit low left × (left ≤ 15) ⌝ }
-    ensures { λ r. ⌜ Parted (now (offsets .entry)) limit r ⌝ }
+    requires { ⌜ (low + left ≤ length (now offsets)) × (left ≤ 15) ⌝ }
+    ensures { λ r. ⌜ r ≡ placeAmong (now (offsets .entry)) limit low left ⌝ }
 {
     if left == 0 {
         return low;
@@ -49,10 +49,9 @@ fn place_among(offsets: &[u32], limit: u64, low: usize, left: usize) -> usize
     halve(offsets, limit, by_2, left / 8)
 }
 
-// The first place whose offset is not below a limit, or the length.
+// That place, looked for in the whole list.
 fn place_of(offsets: &[u32], limit: u64) -> usize
-    requires { ⌜ Ordered (now offsets) ⌝ }
-    ensures { λ r. ⌜ Parted (now (offsets .entry)) limit r ⌝ }
+    ensures { λ r. ⌜ r ≡ placeOf (now (offsets .entry)) limit ⌝ }
 {
     let mut low = 0;
     let mut left = offsets.len();
@@ -65,26 +64,20 @@ fn place_of(offsets: &[u32], limit: u64) -> usize
 
 // What is stored for the first end with the last offset below a limit, 0 if there is none: read, whatever the list holds.
 pub(crate) fn count_below(offsets: &[u32], near_first: &[u32], limit: u64) -> u32
-    requires { ⌜ Ordered (now offsets) × (length (now «near_first») ≡ length (now offsets)) ⌝ }
     ensures { λ r. ⌜ r ≡ readBelow (now (offsets .entry)) (now («near_first» .entry)) limit ⌝ }
 {
     let place = place_of(offsets, limit);
     if place == 0 {
         return 0;
     }
-    near_first[place - 1]
+    value_at(near_first, place - 1)
 }
 
 // What is stored for the second end with the first offset not below a limit, 0 if there is none: read, whatever the list holds.
 pub(crate) fn count_from(offsets: &[u32], near_second: &[u32], limit: u64) -> u32
-    requires { ⌜ Ordered (now offsets) × (length (now «near_second») ≡ length (now offsets)) ⌝ }
     ensures { λ r. ⌜ r ≡ readFrom (now (offsets .entry)) (now («near_second» .entry)) limit ⌝ }
 {
-    let place = place_of(offsets, limit);
-    if place == offsets.len() {
-        return 0;
-    }
-    near_second[place]
+    value_at(near_second, place_of(offsets, limit))
 }
 
 // What is stored for the first end with the last offset, 0 if there is none: the whole run's number, read, whatever the list holds.
@@ -95,5 +88,5 @@ pub(crate) fn count_all(near_first: &[u32]) -> u32
     if places == 0 {
         return 0;
     }
-    near_first[places - 1]
+    value_at(near_first, places - 1)
 }

@@ -1,231 +1,151 @@
-// How many events of one run lie in reach of the events of another.
-ghost use mathlib.Core.Bool.{true};
-ghost use mathlib.Core.List.{List};
+// The kernel: to the totals at rising thresholds, the pairs of an event of one run and one of another, looked up from stored numbers.
 ghost use mathlib.Core.Path.{_≡_};
-ghost use Prim.Native.Nat.{ℕ, pred, _+_, _*_, _≤_, _<_};
+ghost use Prim.Native.Nat.{_+_, _*_, _≤_};
 ghost use lib.ListN.{length, getD};
-ghost use Rattle.model.specs.Limits.{maxNodes, maxEvents};
-ghost use Rattle.model.specs.Network.{network};
-ghost use Rattle.prepare.specs.EndTable.{EndTable};
-ghost use Rattle.prepare.specs.Ways.{way};
-ghost use Rattle.count_augmentation.specs.Pairs.{leastEntry, rowsOf, inRow, EndsRead, InRow, InRows, Apart, edgePair, toFirst, toSecond, reachedBy, reachedPairs, lookedUpBy, lookedUpPairs, TwoRuns};
-ghost use Rattle.count_augmentation.specs.Reach.{Run};
-ghost use Rattle.count_augmentation.specs.Storing.{NumbersStored, storedLast};
-use crate::reach::count_reached;
-use crate::reach::reach;
-use crate::reach::reach_by;
+ghost use Rattle.model.specs.Limits.{maxEvents};
+ghost use Rattle.model.specs.Location.{at-first, at-second};
+ghost use Rattle.edge_pair.specs.Offsets.{Ordered, EdgesLaid};
+ghost use Rattle.edge_pair.specs.Totals.{Added};
+ghost use Rattle.edge_pair.specs.Ways.{far, toEnd};
+ghost use Rattle.edge_pair.specs.Within.{reachedPairs};
+ghost use Rattle.count_augmentation.specs.LookUp.{storedLast, lookedUpBy, lookedUpPairs};
+ghost use Rattle.count_augmentation.specs.Storing.{NumbersStored};
+ghost use Rattle.count_augmentation.specs.Thresholds.{wholeFrom, someFrom, Spread};
+use crate::look_up::count_all;
+use crate::reach::count_part;
+use crate::thresholds::place_in;
+use edge_pair::EdgePair;
+use edge_pair::change_from;
+use edge_pair::to_end;
+use model::EventSet;
 use model::equals_end;
-use model::greater;
 use model::lesser;
-use model::lesser_entry;
-use prepare::way;
+use model::value_at;
 
-// Two edges: their lengths, the table entries from each end of the one to each end of the other, whether they are one edge, and the
-// entry of the least way between them.
-pub struct EdgePair {
-    pub size: u32,
-    pub other: u32,
-    pub firsts: u32,
-    pub onward: u32,
-    pub back: u32,
-    pub seconds: u32,
-    pub same: bool,
-    pub least: u32,
-}
-
-// The entry of the least of four ways; an entry of 0 is none.
-fn least_entry(ff: u32, fs: u32, sf: u32, ss: u32) -> u32
-    ensures { λ r. ⌜ r ≡ leastEntry ff fs sf ss ⌝ }
+// The least threshold at which all of an edge is within reach of its ends, which are u and v metres away from an event.
+fn whole_from(length: u32, u: u64, v: u64) -> u64
+    requires { ⌜ (u ≤ far + far) × (v ≤ far + far) ⌝ }
+    ensures { λ r. ⌜ r ≡ wholeFrom length u v ⌝ }
 {
-    lesser_entry(lesser_entry(ff, fs), lesser_entry(sf, ss))
+    lesser((u + v + length as u64) / 2, lesser(u, v) + length as u64)
 }
 
-// Where the table has the rows of an edge's two ends.
-pub struct Rows {
-    pub first: usize,
-    pub second: usize,
-}
-
-// Where it has the row of a node.
-fn row_of(nodes: u32, u: u32) -> usize
-    requires { ⌜ (1 ≤ u) × (u ≤ nodes) × (nodes ≤ maxNodes) ⌝ }
-    ensures { λ r. ⌜ r ≡ pred u * nodes ⌝ }
+// The least at which anything of it is; on the event's own edge something always is.
+fn some_from(own: bool, u: u64, v: u64) -> u64
+    ensures { λ r. ⌜ r ≡ someFrom own u v ⌝ }
 {
-    (u as usize - 1) * (nodes as usize)
+    if own { 0 } else { lesser(u, v) }
 }
 
-// The rows of an edge by its index.
-pub(crate) fn rows_of(nodes: u32, firsts: &[u32], seconds: &[u32], i: usize) -> Rows
-    requires { ⌜ EndsRead nodes (now firsts) (now seconds) i ⌝ }
-    ensures { λ r. ⌜ r ≡ rowsOf nodes (getD (now (firsts .entry)) i 0) (getD (now (seconds .entry)) i 0) ⌝ }
-{
-    let first = row_of(nodes, firsts[i]);
-    let second = row_of(nodes, seconds[i]);
-    Rows { first, second }
-}
-
-// A row's entry of a node.
-fn entry_in(table: &[u32], row: usize, v: u32) -> u32
-    requires { ⌜ InRow (now table) row v ⌝ }
-    ensures { λ r. ⌜ r ≡ inRow (now (table .entry)) row v ⌝ }
-{
-    table[row + (v as usize - 1)]
-}
-
-// No end of one edge has an entry for an end of the other: none is within the greatest threshold of it. All four are read before
-// anything is tested.
-pub(crate) fn are_apart(
-    rows: Rows,
-    firsts: &[u32],
-    seconds: &[u32],
-    table: &[u32],
-    j: usize,
-) -> bool
-    requires { ⌜ (j < length (now firsts)) × (j < length (now seconds)) × InRows (now table) rows (getD (now firsts) j 0) (getD (now seconds) j 0) ⌝ }
-    ensures { λ r. ⌜ (r ≡ true → Apart (now (table .entry)) rows (getD (now (firsts .entry)) j 0) (getD (now (seconds .entry)) j 0)) ⌝ }
-{
-    let first = firsts[j];
-    let second = seconds[j];
-    let ff = entry_in(table, rows.first, first) as u64;
-    let fs = entry_in(table, rows.first, second) as u64;
-    let sf = entry_in(table, rows.second, first) as u64;
-    let ss = entry_in(table, rows.second, second) as u64;
-    greater(greater(ff, fs), greater(sf, ss)) == 0
-}
-
-// Two edges by their indices.
-pub(crate) fn edge_pair(
-    nodes: u32,
-    firsts: &[u32],
-    seconds: &[u32],
-    lengths: &[u32],
-    table: &[u32],
-    i: usize,
-    j: usize,
-) -> EdgePair
-    requires { ⌜ EndTable (network nodes (now firsts) (now seconds) (now lengths)) (now table) ⌝ }
-    requires { ⌜ (i < length (now lengths)) × (j < length (now lengths)) ⌝ }
-    ensures { λ r. ⌜ r ≡ edgePair (network nodes (now (firsts .entry)) (now (seconds .entry)) (now (lengths .entry))) (now (table .entry)) i j ⌝ }
-{
-    let rows = rows_of(nodes, firsts, seconds, i);
-    let first = firsts[j];
-    let second = seconds[j];
-    let size = lengths[i];
-    let other = lengths[j];
-    let ff = entry_in(table, rows.first, first);
-    let fs = entry_in(table, rows.first, second);
-    let sf = entry_in(table, rows.second, first);
-    let ss = entry_in(table, rows.second, second);
-    let least = least_entry(ff, fs, sf, ss);
-    EdgePair {
-        size,
-        other,
-        firsts: ff,
-        onward: fs,
-        back: sf,
-        seconds: ss,
-        same: i == j,
-        least,
-    }
-}
-
-// No route between two edges is within the threshold, nor within a lower one: their events need not be looked at.
-fn is_beyond(g: EdgePair, threshold: u32) -> bool
-    requires { ⌜ g .least ≡ leastEntry (g .firsts) (g .onward) (g .back) (g .seconds) ⌝ }
-    ensures { λ r. ⌜ (r ≡ true → (t : ℕ) → t ≤ threshold → (x : ℕ) (ys : List ℕ) → reachedBy g t x ys ≡ 0) ⌝ }
-    ensures { λ r. ⌜ (r ≡ true → (x : ℕ) (ys near-first near-second : List ℕ) → Run (g .other) ys near-first near-second → lookedUpBy g threshold x ys near-first near-second ≡ 0) ⌝ }
-{
-    if g.same {
-        return false;
-    }
-    reach_by(threshold, 0, g.least) == 0
-}
-
-// The metres of two ways together.
-fn both(a: u32, b: u32) -> u64
-    ensures { λ r. ⌜ (r ≡ way a + way b) × (r ≤ 2199023255552) ⌝ }
-{
-    way(a) + way(b)
-}
-
-// The whole second edge is within the threshold of every place on the first: all their events are pairs. The routes between two
-// places by both first ends and by both second ends add up to the same for all places, and so do those onward and back, so that the
-// lesser of two is at most half of that.
-fn is_whole(g: EdgePair, threshold: u32) -> bool
-    ensures { λ r. ⌜ (r ≡ true → (x : ℕ) → x ≤ g .size → g .other < toFirst g threshold x + toSecond g threshold x) ⌝ }
-{
-    let ways = lesser(both(g.firsts, g.seconds), both(g.onward, g.back));
-    let routes = ways + g.size as u64 + g.other as u64;
-    routes <= 2 * threshold as u64 + 1
-}
-
-// The sum, over the events of a run on the first edge, of the numbers looked up in a run on the second, once for events at one offset.
-// Where the stored numbers are right, this is the number of pairs in reach. The last stored number, all, is read once by the caller.
-pub(crate) fn count_run(
-    g: EdgePair,
-    threshold: u32,
-    from_offsets: &[u32],
-    offsets: &[u32],
+// Adds what is looked up for so many events at one offset: nothing at the thresholds before one place, what is found at each from there
+// up to before another, and from that on the whole run's number.
+fn add_between(
+    edges: EdgePair,
+    x: u32,
+    events: u64,
+    u: u64,
+    v: u64,
+    ys: &[u32],
     near_first: &[u32],
     near_second: &[u32],
     all: u32,
-) -> u64
-    requires { ⌜ TwoRuns g (now «from_offsets») (now offsets) (now «near_first») (now «near_second») × (all ≡ storedLast (now «near_first»)) ⌝ }
-    ensures { λ r. ⌜ (r ≡ lookedUpPairs g threshold (now («from_offsets» .entry)) (now (offsets .entry)) (now («near_first» .entry)) (now («near_second» .entry))) × (r ≤ maxEvents * 4294967295) ⌝ }
-    ensures { λ r. ⌜ (NumbersStored (g .other) (now (offsets .entry)) (now («near_first» .entry)) (now («near_second» .entry)) → r ≡ reachedPairs g threshold (now («from_offsets» .entry)) (now (offsets .entry))) ⌝ }
+    thresholds: &[u32],
+    from: usize,
+    to: usize,
+    totals: &mut [u64],
+)
+    requires { ⌜ (u ≡ toEnd edges at-first x) × (v ≡ toEnd edges at-second x) × (events ≤ maxEvents) × (all ≡ storedLast (now «near_first»)) ⌝ }
+    ensures { λ _. ⌜ (Spread edges (now (thresholds .entry)) x (now (ys .entry)) (now («near_first» .entry)) (now («near_second» .entry)) from to → Added (length (now (thresholds .entry))) (λ k. events * lookedUpBy edges (getD (now (thresholds .entry)) k 0) x (now (ys .entry)) (now («near_first» .entry)) (now («near_second» .entry))) (now (totals .entry)) (now (totals .exit))) ⌝ }
 {
-    if is_beyond(g, threshold) {
-        return 0;
+    let mut last = 0;
+    let mut k = from;
+    while k < to {
+        let threshold = value_at(thresholds, k);
+        let found = count_part(edges, x, u, v, threshold, ys, near_first, near_second);
+        let next = events * found;
+        change_from(totals, k, last, next);
+        last = next;
+        k += 1;
     }
-    if is_whole(g, threshold) {
-        return from_offsets.len() as u64 * all as u64;
-    }
-    let mut total = 0;
-    let mut i = 0;
-    while i < from_offsets.len() {
-        let next = equals_end(from_offsets, i);
-        let equals = next - i;
-        let found = count_event(
-            g,
-            threshold,
-            from_offsets[i],
-            offsets,
-            near_first,
-            near_second,
-            all,
-        );
-        total += equals as u64 * found;
-        i = next;
-    }
-    total
+    let rest = events * all as u64;
+    change_from(totals, to, last, rest);
 }
 
-// How many of a run on the second edge an event on the first reaches.
-fn count_event(
-    g: EdgePair,
-    threshold: u32,
-    offset: u32,
-    offsets: &[u32],
+// The same, with the two places found from a hint. The place from which on it is the whole run's number is given back, as the hint for
+// the next offset; nothing is promised of it.
+fn add_events(
+    edges: EdgePair,
+    x: u32,
+    events: u64,
+    ys: &[u32],
     near_first: &[u32],
     near_second: &[u32],
     all: u32,
-) -> u64
-    requires { ⌜ (offset ≤ g .size) × Run (g .other) (now offsets) (now «near_first») (now «near_second») × (all ≡ storedLast (now «near_first»)) ⌝ }
-    ensures { λ r. ⌜ r ≡ lookedUpBy g threshold offset (now (offsets .entry)) (now («near_first» .entry)) (now («near_second» .entry)) ⌝ }
-    ensures { λ r. ⌜ (NumbersStored (g .other) (now (offsets .entry)) (now («near_first» .entry)) (now («near_second» .entry)) → (r ≡ reachedBy g threshold offset (now (offsets .entry))) × (r ≤ maxEvents)) ⌝ }
+    thresholds: &[u32],
+    hint: usize,
+    totals: &mut [u64],
+) -> usize
+    requires { ⌜ (events ≤ maxEvents) × (all ≡ storedLast (now «near_first»)) ⌝ }
+    ensures { λ _. ⌜ (Ordered (now (thresholds .entry)) → Added (length (now (thresholds .entry))) (λ k. events * lookedUpBy edges (getD (now (thresholds .entry)) k 0) x (now (ys .entry)) (now («near_first» .entry)) (now («near_second» .entry))) (now (totals .entry)) (now (totals .exit))) ⌝ }
 {
-    let to_first = reach(threshold, g.size, offset, g.firsts, g.back);
-    let to_second = reach(threshold, g.size, offset, g.onward, g.seconds);
-    count_reached(
-        offsets,
+    let u = to_end(edges, x, true);
+    let v = to_end(edges, x, false);
+    let to = place_in(thresholds, whole_from(edges.length2, u, v), hint);
+    let from = place_in(thresholds, some_from(edges.same, u, v), to);
+    add_between(
+        edges,
+        x,
+        events,
+        u,
+        v,
+        ys,
         near_first,
         near_second,
         all,
-        g.other,
-        to_first,
-        to_second,
-        g.same,
-        threshold,
-        offset,
-    )
+        thresholds,
+        from,
+        to,
+        totals,
+    );
+    to
+}
+
+// Adds to the total at each threshold what is looked up for the events of a run on the first edge, in the numbers of a run on the second,
+// once for events at one offset; nothing where the first run is longer than the limit. Where the numbers are those that `store` makes,
+// this is how many pairs lie within the threshold.
+pub fn add_pairs(
+    edges: EdgePair,
+    xs: &[u32],
+    ys: &[u32],
+    near_first: &[u32],
+    near_second: &[u32],
+    thresholds: &[u32],
+    totals: &mut [u64],
+)
+    ensures { λ _. ⌜ (Ordered (now (thresholds .entry)) → length (now (xs .entry)) ≤ maxEvents → Added (length (now (thresholds .entry))) (λ k. lookedUpPairs edges (getD (now (thresholds .entry)) k 0) (now (xs .entry)) (now (ys .entry)) (now («near_first» .entry)) (now («near_second» .entry))) (now (totals .entry)) (now (totals .exit))) ⌝ }
+    ensures { λ _. ⌜ (Ordered (now (thresholds .entry)) → EdgesLaid edges (now (xs .entry)) (now (ys .entry)) → length (now («near_first» .entry)) ≡ length (now (ys .entry)) → length (now («near_second» .entry)) ≡ length (now (ys .entry)) → NumbersStored (edges .length2) (now (ys .entry)) (now («near_first» .entry)) (now («near_second» .entry)) → Added (length (now (thresholds .entry))) (λ k. reachedPairs (getD (now (thresholds .entry)) k 0) edges (now (xs .entry)) (now (ys .entry))) (now (totals .entry)) (now (totals .exit))) ⌝ }
+{
+    if EventSet::MAX_EVENTS < xs.len() {
+        return;
+    }
+    let all = count_all(near_first);
+    let mut place = 0;
+    let mut i = 0;
+    while i < xs.len() {
+        let next = equals_end(xs, i);
+        let events = (next - i) as u64;
+        place = add_events(
+            edges,
+            xs[i],
+            events,
+            ys,
+            near_first,
+            near_second,
+            all,
+            thresholds,
+            place,
+            totals,
+        );
+        i = next;
+    }
 }

@@ -1,6 +1,6 @@
 // The library for programs in C and Rust. A slice is a pointer and a length, a `&mut` number is a pointer.
 // A refusal is told through number and place, 0 and 0 where there is none.
-mod counting;
+mod counts;
 mod inner;
 mod told;
 

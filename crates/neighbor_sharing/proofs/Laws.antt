@@ -1,5 +1,5 @@
 -- One file to a concept.
 pub mod Joined
 pub mod Stands
-pub mod Apart
-pub mod Meeting
+pub mod Sharing
+pub mod Within

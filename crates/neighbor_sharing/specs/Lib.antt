@@ -1,4 +1,3 @@
--- What the inner functions ask and promise of the six cursors of two edges, and of what they count.
+-- What the six cursors of two edges join.
 pub mod Stands
 pub mod Joined
-pub mod Runs

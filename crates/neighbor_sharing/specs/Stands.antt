@@ -1,48 +1,32 @@
--- Where the six cursors of two edges stand at an offset of the first, and what moving them there takes: cited by no public function.
+-- Where the six cursors of two edges rest, and where they come to stand at an offset of the first, moved on from anywhere.
 use mathlib.Core.Bool.{Bool, true, false, cond}
 use mathlib.Core.List.{List}
-use Prim.Native.Nat.{ℕ, _≤_}
-use lib.ListN.{length}
-use Rattle.model.specs.Location.{Side, at-first, at-second}
-use Rattle.sweep.specs.Cursors.{position, below, upTo, rest}
-use Rattle.sweep.specs.Ends.{codeBetween, distanceBetween}
-use Rattle.sweep.specs.Moving.{sideOf, movedOn, routeOrNone, belowCursor, upToCursor}
-use Rattle.prepare.specs.Offsets.{Ordered}
-use Rattle.sweep.specs.Sweeping.{Passes}
+use Prim.Native.Nat.{ℕ}
+use Rattle.model.specs.Location.{at-first, at-second}
+use Rattle.edge_pair.specs.Edges.{sideOf, codeBetween}
+use Rattle.edge_pair.specs.declared.edges.EdgePair.{EdgePair}
+use Rattle.sweep.specs.Cursors.{rest}
+use Rattle.sweep.specs.Moving.{movedOn, routeCursor, belowCursor, upToCursor}
+use Rattle.sweep.specs.declared.cursor.Cursor.{Cursor}
 use Rattle.neighbor_sharing.specs.declared.moving.Stands.{Stands}
-use Rattle.sweep.specs.declared.sweeping.Edges.{Edges}
 
--- a route's cursor
-unfoldable pub routeStand : ℕ → Edges → Side → Side → List ℕ → ℕ → ℕ
-routeStand t w s s′ ys x = position t (w .long1) s (distanceBetween w s s′) (w .long2) s′ ys x
+-- a route's cursor, from an end of the first edge to one of the second, and that cursor moved on to the offset x from any position
+abbrev pub routeOf : ℕ → EdgePair → Bool → Bool → Cursor
+routeOf t w first1 first2 = routeCursor t (w .length1) first1 (codeBetween w (sideOf first1) (sideOf first2)) first2
 
--- all six; those of the window, on two different edges, at 0
-unfoldable pub standsAt : ℕ → Edges → List ℕ → ℕ → Stands
-standsAt t w ys x =
-    record {
-      ff = routeStand t w at-first at-first ys x;
-      fs = routeStand t w at-first at-second ys x;
-      sf = routeStand t w at-second at-first ys x;
-      ss = routeStand t w at-second at-second ys x;
-      low = cond (w .same) (below t ys x) 0;
-      high = cond (w .same) (upTo t ys x) 0;
-    }
+unfoldable pub routeMoved : ℕ → EdgePair → Bool → Bool → List ℕ → ℕ → ℕ → ℕ
+routeMoved t w first1 first2 ys x from = movedOn (routeOf t w first1 first2) (w .length2) ys x from
 
--- a route's cursor, moved on to the offset x from any position
-unfoldable pub routeMoved : ℕ → Edges → Bool → Bool → List ℕ → ℕ → ℕ → ℕ
-routeMoved t w first1 first2 ys x from =
-    movedOn (routeOrNone t (w .long1) first1 (codeBetween w (sideOf first1) (sideOf first2)) first2) (w .long2) ys x from
-
--- all six, each from where it stood
-unfoldable pub standsMoved : ℕ → Edges → List ℕ → ℕ → Stands → Stands
+-- all six, each from where it stood; those of the window, on two different edges, at 0
+unfoldable pub standsMoved : ℕ → EdgePair → List ℕ → ℕ → Stands → Stands
 standsMoved t w ys x from =
     record {
       ff = routeMoved t w true true ys x (from .ff);
       fs = routeMoved t w true false ys x (from .fs);
       sf = routeMoved t w false true ys x (from .sf);
       ss = routeMoved t w false false ys x (from .ss);
-      low = cond (w .same) (movedOn (belowCursor t) (w .long2) ys x (from .low)) 0;
-      high = cond (w .same) (movedOn (upToCursor t) (w .long2) ys x (from .high)) 0;
+      low = cond (w .same) (movedOn (belowCursor t) (w .length2) ys x (from .low)) 0;
+      high = cond (w .same) (movedOn (upToCursor t) (w .length2) ys x (from .high)) 0;
     }
 
 -- before the first event
@@ -56,23 +40,3 @@ standsAtRest ys =
       low = 0;
       high = 0;
     }
-
-unfoldable pub standOf : Stands → Side → Side → ℕ
-standOf m at-first at-first = m .ff
-standOf m at-first at-second = m .fs
-standOf m at-second at-first = m .sf
-standOf m at-second at-second = m .ss
-
--- what moving a route's cursor to the offset x takes
-pub record RouteMovable (t : ℕ) (w : Edges) (s s′ : Side) (ys : List ℕ) (x from : ℕ) : Type 0 where
-  pub ordered : Ordered ys
-  pub on-edge : x ≤ w .long1
-  pub from-in : from ≤ length ys
-  pub onward : Passes s from (routeStand t w s s′ ys x)
-
--- and all six
-pub record StandsMovable (t : ℕ) (w : Edges) (ys : List ℕ) (x : ℕ) (from : Stands) : Type 0 where
-  pub ordered : Ordered ys
-  pub routes-can : (s s′ : Side) → RouteMovable t w s s′ ys x (standOf from s s′)
-  pub low-on : from .low ≤ below t ys x
-  pub high-on : from .high ≤ upTo t ys x

@@ -2,7 +2,5 @@
 mod joining;
 mod moving;
 mod pairs;
-mod runs;
-mod sets;
 
-pub use sets::counts;
+pub use pairs::add_pairs;

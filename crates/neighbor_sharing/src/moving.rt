@@ -1,10 +1,10 @@
 // Where the six cursors of two edges stand at an offset of the first, moved on from where they stood before.
+use edge_pair::EdgePair;
+use edge_pair::code_between;
 use sweep::Cursor;
-use sweep::Edges;
 use sweep::advance;
 use sweep::below;
-use sweep::code_between;
-use sweep::route_or_none;
+use sweep::route;
 use sweep::up_to;
 ghost use mathlib.Core.Bool.{cond};
 ghost use mathlib.Core.Path.{_≡_};
@@ -39,7 +39,7 @@ pub(crate) fn at_rest(ys: &[u32]) -> Stands
 // Moves the cursor of a route to an offset of the first edge.
 fn route_to(
     threshold: u32,
-    edges: Edges,
+    edges: EdgePair,
     first1: bool,
     first2: bool,
     ys: &[u32],
@@ -49,8 +49,8 @@ fn route_to(
     ensures { λ r. ⌜ r ≡ routeMoved threshold edges first1 first2 (now (ys .entry)) x from ⌝ }
 {
     let code = code_between(edges, first1, first2);
-    let cursor = route_or_none(threshold, edges.long1, first1, code, first2);
-    advance(cursor, ys, edges.long2, x, from)
+    let cursor = route(threshold, edges.length1, first1, code, first2);
+    advance(cursor, ys, edges.length2, x, from)
 }
 
 // The same for a cursor of the window. On two edges there is none, which counts as position 0.
@@ -64,7 +64,7 @@ fn window_to(same: bool, cursor: Cursor, ys: &[u32], long: u32, x: u32, from: us
 }
 
 // All six, each on from where it stood.
-pub(crate) fn move_to(threshold: u32, edges: Edges, ys: &[u32], x: u32, from: Stands) -> Stands
+pub(crate) fn move_to(threshold: u32, edges: EdgePair, ys: &[u32], x: u32, from: Stands) -> Stands
     ensures { λ r. ⌜ r ≡ standsMoved threshold edges (now (ys .entry)) x from ⌝ }
 {
     let ff = route_to(threshold, edges, true, true, ys, x, from.ff);
@@ -72,9 +72,9 @@ pub(crate) fn move_to(threshold: u32, edges: Edges, ys: &[u32], x: u32, from: St
     let sf = route_to(threshold, edges, false, true, ys, x, from.sf);
     let ss = route_to(threshold, edges, false, false, ys, x, from.ss);
     let lower = below(threshold);
-    let low = window_to(edges.same, lower, ys, edges.long2, x, from.low);
+    let low = window_to(edges.same, lower, ys, edges.length2, x, from.low);
     let upper = up_to(threshold);
-    let high = window_to(edges.same, upper, ys, edges.long2, x, from.high);
+    let high = window_to(edges.same, upper, ys, edges.length2, x, from.high);
     Stands {
         ff,
         fs,

@@ -10,6 +10,8 @@ ghost use Rattle.prepare.specs.Prepared.{greatest};
 use crate::verdict::check_asked;
 use crate::verdict::check_room;
 use crate::verdict::lowest;
+use counting::Method;
+use counting::counts;
 use model::Check;
 use model::EventSet;
 use model::lesser;
@@ -51,7 +53,8 @@ fn count_each(
     ensures { λ _. ⌜ Counted (network nodes (now (firsts .entry)) (now (seconds .entry)) (now (lengths .entry))) (now (sets .entry)) (now (edges .entry)) (now (offsets .entry)) (now (thresholds .entry)) (now (augmented .entry)) (now (augmented .exit)) ⌝ }
     ensures { λ _. ⌜ Counted (network nodes (now (firsts .entry)) (now (seconds .entry)) (now (lengths .entry))) (now (sets .entry)) (now (edges .entry)) (now (offsets .entry)) (now (thresholds .entry)) (now (shared .entry)) (now (shared .exit)) ⌝ }
 {
-    range_query::counts(
+    counts(
+        Method::RangeQuery,
         nodes,
         firsts,
         seconds,
@@ -62,7 +65,8 @@ fn count_each(
         thresholds,
         ranged,
     );
-    count_augmentation::counts(
+    counts(
+        Method::CountAugmentation,
         nodes,
         firsts,
         seconds,
@@ -73,7 +77,8 @@ fn count_each(
         thresholds,
         augmented,
     );
-    neighbor_sharing::counts(
+    counts(
+        Method::NeighborSharing,
         nodes,
         firsts,
         seconds,

@@ -13,13 +13,8 @@ pub mod Preparing
 pub mod LaidEvents
 pub mod InRuns
 pub mod Entries
-pub mod Ways
 pub mod RunSums
 pub mod RunEvents
 pub mod CountRows
 pub mod RunPairs
 pub mod SetPairs
-pub mod Totals
-pub mod Filled
-pub mod TotalRows
-pub mod AllSets

@@ -2,10 +2,8 @@
 mod checks;
 mod ends;
 mod laying_out;
-mod rows;
 mod runs;
 mod sets;
-mod ways;
 
 ghost use Rattle.model.specs.Network.{network};
 ghost use Rattle.prepare.specs.Prepared.{Ready, LeftOnRefusal, SurplusKept};
@@ -15,9 +13,6 @@ use laying_out::lay_runs;
 use model::Check;
 use model::EventSet;
 use model::Network;
-pub use rows::write_row;
-pub use ways::FAR;
-pub use ways::way;
 
 // An entry for each event.
 pub type Laid = [u32; EventSet::MAX_EVENTS];

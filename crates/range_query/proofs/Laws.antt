@@ -1,18 +1,7 @@
--- Laws of the tally, of the metres and of pairs counted once.
-pub mod Between
-pub mod Tally
-pub mod Steps
+-- Laws of the ladder, of what is looked up in it, and of the pairs.
 pub mod Cells
+pub mod Filling
 pub mod Ladder
-pub mod Table
-pub mod Blocks
-pub mod Runs
-pub mod Whole
-pub mod Split
-pub mod Meeting
-pub mod Looping
-pub mod Halves
-pub mod Routes
-pub mod Answers
-pub mod Counted
-pub mod AllSets
+pub mod Lookup
+pub mod Pairs
+pub mod Within

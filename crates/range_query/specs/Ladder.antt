@@ -1,46 +1,111 @@
--- What the inner functions that lay out the steps and their cells promise: cited by no public function.
+-- The ladder: the thresholds spread over as many steps as there may be thresholds, and cells by which the first step that admits so
+-- many metres is looked up.
+use mathlib.Core.Bool.{cond}
 use mathlib.Core.List.{List}
 use mathlib.Core.Path.{_≡_}
-use Prim.Native.Nat.{ℕ, _+_, _-_, _≤_, _<_, min}
+use Prim.Native.Nat.{ℕ, suc, _+_, _-_, _*_, _/_, _%_, _^_, _≤_, _<_, min}
+use lib.Dec.{eqb, ltb}
 use lib.ListN.{length, getD}
 use Rattle.model.specs.Limits.{maxThresholds}
-use Rattle.range_query.specs.Tally.{lastStep, ladderLength, Level, Celled}
+use Rattle.range_query.specs.declared.lookup.Cells.{Cells}
 
--- the thresholds, the greatest repeated behind them
-pub record SpreadSteps (ts steps : List ℕ) : Type 0 where
-  pub long : length steps ≡ ladderLength
-  pub at : (k : ℕ) → k < maxThresholds → getD steps k 0 ≡ getD ts (min k (length ts - 1)) 0
-  pub small : (k : ℕ) → k < maxThresholds → getD steps k 0 < 4294967296
+-- the places of the ladder: the step of the greatest threshold, behind the steps the shift and the number of steps of a cell, and
+-- behind them the cells
+abbrev pub lastStep : ℕ
+lastStep = maxThresholds - 1
 
--- from step c on to step r, which is not beyond number last, all are below so many metres
-pub record Skipped (steps : List ℕ) (metres c last r : ℕ) : Type 0 where
-  pub onward : c ≤ r
-  pub in-list : r ≤ last
-  pub passed : (j : ℕ) → c ≤ j → j < r → getD steps j 0 < metres
+abbrev pub shiftAt : ℕ
+shiftAt = maxThresholds
 
--- every step behind the most from number c on admits what lies before an end and within the greatest threshold
-pub record Alone (steps : List ℕ) (most c end : ℕ) : Type 0 where
-  pub ahead : (d : ℕ) → d < end → d ≤ getD steps lastStep 0 → (j : ℕ) → c + most ≤ j → j < maxThresholds → d ≤ getD steps j 0
+abbrev pub mostAt : ℕ
+mostAt = suc shiftAt
 
--- the end of a cell: that of the last one is beyond the greatest threshold
-pub record CellEnd (k last next greatest end : ℕ) : Type 0 where
-  pub inner : k < last → end ≡ next
-  pub open-ended : k ≡ last → greatest < end
+abbrev pub firstCell : ℕ
+firstCell = suc mostAt
 
--- the steps are kept
-pub record StepsKept (old new : List ℕ) : Type 0 where
-  pub long : length new ≡ length old
-  pub at : (k : ℕ) → k < maxThresholds → getD new k 0 ≡ getD old k 0
+abbrev pub cellCount : ℕ
+cellCount = 8192
 
--- cells may be filled: the list is long enough, and the steps are thresholds
-pub record CellsAllowed (steps : List ℕ) (most : ℕ) : Type 0 where
-  pub long : length steps ≡ ladderLength
-  pub small : getD steps lastStep 0 < 4294967296
-  pub some : 1 ≤ most
-  pub few : most ≤ maxThresholds
+abbrev pub lastCell : ℕ
+lastCell = cellCount - 1
 
--- if any were filled, which r tells, they are right where the steps do not fall
-pub record CellsFilled (old : List ℕ) (r : ℕ) (new : List ℕ) : Type 0 where
-  pub kept : StepsKept old new
-  pub few : r ≤ maxThresholds
-  pub celled : 1 ≤ r → Level old → Celled new r
+abbrev pub ladderLength : ℕ
+ladderLength = firstCell + cellCount
+
+-- a cell is of 2 ^ 31 metres at most
+abbrev pub shiftEnd : ℕ
+shiftEnd = 32
+
+-- cells have one step each
+abbrev pub alone : ℕ
+alone = 1
+
+-- the greatest threshold, and the shift of the cells, which are of 2 ^ shift metres
+abbrev pub greatestOf : List ℕ → ℕ
+greatestOf ladder = getD ladder lastStep 0
+
+abbrev pub shiftOf : List ℕ → ℕ
+shiftOf ladder = getD ladder shiftAt 0 % shiftEnd
+
+-- the start of the last cell, or the greatest threshold where that comes first
+unfoldable pub capOf : ℕ → ℕ → ℕ
+capOf greatest width = min greatest (lastCell * width)
+
+-- the cell of d: the last one has no end
+unfoldable pub cellOf : ℕ → ℕ → ℕ → ℕ
+cellOf greatest width d = min d (capOf greatest width) / width
+
+-- what is read of a ladder before anything is looked up in it: cited by no public function
+unfoldable pub cellsOf : List ℕ → Cells
+cellsOf ladder =
+    record {
+      lone = eqb (getD ladder mostAt 0) alone;
+      shift = shiftOf ladder;
+      cap = capOf (greatestOf ladder) (2 ^ shiftOf ladder);
+      greatest = greatestOf ladder;
+    }
+
+-- the steps before place pos are passed, and with them half more if the last of these does not admit d
+unfoldable pub narrowed : List ℕ → ℕ → ℕ → ℕ → ℕ
+narrowed ladder d half pos = pos + cond (ltb (getD ladder (pos + half - 1) 0) d) half 0
+
+-- the steps that do not admit d, by halving all of them
+unfoldable pub byHalves : List ℕ → ℕ → ℕ
+byHalves ladder d =
+    narrowed ladder d 1 (narrowed ladder d 1 (narrowed ladder d 2 (narrowed ladder d 4 (narrowed ladder d 8 (narrowed ladder d 16 (narrowed ladder d 32 0))))))
+
+-- the step that the cell of d names
+unfoldable pub namedBy : List ℕ → ℕ → ℕ
+namedBy ladder d = getD ladder (firstCell + cellOf (greatestOf ladder) (2 ^ shiftOf ladder) d) 0
+
+-- the steps that do not admit d, by the one step of its cell
+unfoldable pub byCell : List ℕ → ℕ → ℕ
+byCell ladder d =
+    cond (ltb (greatestOf ladder) d) maxThresholds (narrowed ladder d 1 (namedBy ladder d % maxThresholds))
+
+-- the bucket of d: by its cell where cells have one step each
+unfoldable pub bucketIn : List ℕ → ℕ → ℕ
+bucketIn ladder d = cond (eqb (getD ladder mostAt 0) alone) (byCell ladder d) (byHalves ladder d)
+
+-- the first step that admits d is among the n from place pos on, or comes right behind them
+pub record Bracket (ladder : List ℕ) (d pos n : ℕ) : Type 0 where
+  pub fits : pos + n ≤ maxThresholds
+  pub passed : (k : ℕ) → k < pos → getD ladder k 0 < d
+  pub ahead : (k : ℕ) → pos + n ≤ k → k < maxThresholds → d ≤ getD ladder k 0
+
+-- the steps do not fall
+pub record Level (ladder : List ℕ) : Type 0 where
+  pub level : (j k : ℕ) → j ≤ k → k < maxThresholds → getD ladder j 0 ≤ getD ladder k 0
+
+-- the cell of d names the one step that need be looked at, if d is within the greatest threshold
+pub record Celled (ladder : List ℕ) : Type 0 where
+  pub names : (d : ℕ) → d ≤ greatestOf ladder → Bracket ladder d (namedBy ladder d) alone
+
+-- the thresholds are spread over the steps, and the cells are right
+pub record LadderOf (ts ladder : List ℕ) : Type 0 where
+  pub long : length ladder ≡ ladderLength
+  pub few : length ts ≤ maxThresholds
+  pub at : (k : ℕ) → k < length ts → getD ladder k 0 ≡ getD ts k 0
+  pub small : (k : ℕ) → k < length ts → getD ts k 0 < 4294967296
+  pub level : Level ladder
+  pub celled : getD ladder mostAt 0 ≡ alone → Celled ladder

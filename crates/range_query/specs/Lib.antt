@@ -1,5 +1,4 @@
--- The range query: the metres between two events from the ways between their edges' ends, and the tally by thresholds.
-pub mod Metres
-pub mod Tally
+-- The range query: each pair by its own metres, counted at the first threshold that admits them.
 pub mod Ladder
-pub mod Runs
+pub mod Spreading
+pub mod Metres

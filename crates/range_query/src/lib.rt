@@ -1,12 +1,12 @@
-// Pair counts by a range query: for each event the others in reach, at every threshold at once.
-mod answers;
-mod blocks;
-mod ladder;
-mod metres;
-mod runs;
-mod sets;
-mod split;
-mod tally;
-mod whole;
+// The kernel of the range query: each pair is counted at the first threshold that admits its own distance, or its distance is compared
+// with the one threshold that is asked for.
+mod lookup;
+mod pairs;
+mod spreading;
+mod within;
 
-pub use sets::counts;
+pub use lookup::LADDER;
+pub use lookup::first_admitting;
+pub use pairs::add_pairs;
+pub use spreading::spread;
+pub use within::count_within;

@@ -5,61 +5,22 @@ use crate::show::named;
 use crate::show::named_answer;
 use cases::filled;
 use cases::list;
+use counting::Method;
 use model::Check;
 use model::value_at;
 
-fn by(
-    method: u32,
-    nodes: u32,
-    firsts: &[u32],
-    seconds: &[u32],
-    lengths: &[u32],
-    sets: &[u32],
-    edges: &[u32],
-    offsets: &[u32],
-    thresholds: &[u32],
-    counts: &mut [u32],
-) -> Check {
-    match method {
-        labels::RANGE_QUERY => range_query::counts(
-            nodes,
-            firsts,
-            seconds,
-            lengths,
-            sets,
-            edges,
-            offsets,
-            thresholds,
-            counts,
-        ),
-        labels::COUNT_AUGMENTATION => count_augmentation::counts(
-            nodes,
-            firsts,
-            seconds,
-            lengths,
-            sets,
-            edges,
-            offsets,
-            thresholds,
-            counts,
-        ),
-        _ => neighbor_sharing::counts(
-            nodes,
-            firsts,
-            seconds,
-            lengths,
-            sets,
-            edges,
-            offsets,
-            thresholds,
-            counts,
-        ),
+fn method_of(label: u32) -> Method {
+    match label {
+        labels::RANGE_QUERY => Method::RangeQuery,
+        labels::COUNT_AUGMENTATION => Method::CountAugmentation,
+        labels::NEIGHBOR_SHARING => Method::NeighborSharing,
+        _ => Method::Cheapest,
     }
 }
 
 fn one(method: u32, lists: &[u32], counts: &mut [u32]) {
-    let check = by(
-        method,
+    let check = counting::counts(
+        method_of(method),
         value_at(lists, 1),
         list(lists, 1),
         list(lists, 2),

@@ -15,9 +15,9 @@ use Rattle.model.specs.Network.{Network, IsNode, edges, first, second, size}
 use Rattle.model.specs.NodeDistance.{boundedDistance}
 use Rattle.model.specs.declared.check.Check.the-variants.{Accepted}
 use Rattle.sweep.specs.Answers.{cursorPositions, cursorMoves}
-use Rattle.sweep.specs.Ends.{codeBetween}
+use Rattle.edge_pair.specs.Edges.{codeBetween}
 use Rattle.sweep.specs.declared.asked.EndCodes.{EndCodes}
-use Rattle.sweep.specs.declared.sweeping.Edges.{Edges}
+use Rattle.edge_pair.specs.declared.edges.EdgePair.{EdgePair}
 
 -- lists of events that belong together, room for six positions at each event of the first edge, and for six sums of moves
 unfoldable pub hasRooms : List ℕ → List ℕ → ℕ → List ℕ → List ℕ → Bool
@@ -52,9 +52,9 @@ pub record TwoEdges (net : Network) (e f : ℕ) : Type 0 where
   pub second-to : f ≤ edges net
 
 -- what the sweep is told of the edges at the indices i and j
-pub record EdgesFound (net : Network) (bound i j : ℕ) (w : Edges) : Type 0 where
-  pub long1-is : w .long1 ≡ size net i
-  pub long2-is : w .long2 ≡ size net j
+pub record EdgesFound (net : Network) (bound i j : ℕ) (w : EdgePair) : Type 0 where
+  pub length1-is : w .length1 ≡ size net i
+  pub length2-is : w .length2 ≡ size net j
   pub same-is : w .same ≡ eqb i j
   pub codes-are : (s s′ : Side) → codeBetween w s s′ ≡ code (boundedDistance net bound (endNode net i s) (endNode net j s′))
 

@@ -5,22 +5,15 @@ use Prim.Native.Nat.{ℕ, zero, suc, _+_, _-_, min}
 use lib.Dec.{ltb}
 use lib.ListN.{length, getD}
 use Rattle.model.specs.Location.{Side, at-first, at-second}
+use Rattle.edge_pair.specs.Edges.{sideOf}
+use Rattle.edge_pair.specs.Ways.{way}
 use Rattle.sweep.specs.declared.cursor.Cursor.{Cursor}
 
--- the side of an edge that a flag of the code names
-unfoldable pub sideOf : Bool → Side
-sideOf true = at-first
-sideOf false = at-second
-
--- the cursor of a route: at threshold t, the first edge's length being p
+-- the cursor of a route: at threshold t, the first edge's length being p. Where the code is that of no route it reaches nothing from
+-- any offset up to p
 unfoldable pub routeCursor : ℕ → ℕ → Bool → ℕ → Bool → Cursor
 routeCursor t p falling code first =
-    record { falling = falling; plus = t; minus = cond falling (code - 1) (p + (code - 1)); first = first }
-
--- where the code is that of no route, a cursor that reaches nothing from any offset up to p
-unfoldable pub routeOrNone : ℕ → ℕ → Bool → ℕ → Bool → Cursor
-routeOrNone t p falling zero first = record { falling = falling; plus = t; minus = p + (t + 1); first = first }
-routeOrNone t p falling (suc n) first = routeCursor t p falling (suc n) first
+    record { falling = falling; plus = t; minus = cond falling (way code) (p + way code); first = first }
 
 -- the cursor of the offsets below own offset less threshold, and that of those not above own offset plus threshold
 unfoldable pub belowCursor : ℕ → Cursor

@@ -11,11 +11,11 @@ use Rattle.model.specs.Location.{Side, at-first, at-second}
 use Rattle.model.specs.declared.check.Check.the-variants.{Accepted}
 use Rattle.sweep.specs.Answers.{marked, markedIf}
 use Rattle.sweep.specs.Cursors.{positions, below, upTo, rest, moves}
-use Rattle.prepare.specs.Offsets.{Ordered, OnEdge}
-use Rattle.sweep.specs.Ends.{distanceBetween}
+use Rattle.edge_pair.specs.Offsets.{Ordered, Laid}
+use Rattle.edge_pair.specs.Edges.{distanceBetween}
 use Rattle.sweep.specs.Sweeping.{standing, resting}
 use Rattle.sweep.specs.declared.cursor.Cursor.{Cursor}
-use Rattle.sweep.specs.declared.sweeping.Edges.{Edges}
+use Rattle.edge_pair.specs.declared.edges.EdgePair.{EdgePair}
 
 -- the six lists of positions one after the other, and the six sums of moves: d gives the distance for each choice of ends,
 -- same whether the two edges are one
@@ -49,17 +49,6 @@ module _ (t p q : ℕ) (d : Side → Side → Distance) (same : Bool) (xs ys : L
       ∷ windowSum (upTo t)
       ∷ []
 
--- the offsets of events on an edge of length p, in rising order
-pub record Laid (p : ℕ) (xs : List ℕ) : Type 0 where
-  pub ordered : Ordered xs
-  pub on-edge : OnEdge p xs
-  pub few : length xs ≤ maxEvents
-
--- on two edges
-pub record EdgesLaid (w : Edges) (xs ys : List ℕ) : Type 0 where
-  pub first-laid : Laid (w .long1) xs
-  pub second-laid : Laid (w .long2) ys
-
 -- a list with a part put in its place from an index on
 unfoldable pub placed : ℕ → List ℕ → List ℕ → List ℕ
 placed from part l = take from l ++ (part ++ drop (from + length part) l)
@@ -76,22 +65,22 @@ pub record PartSwept (exists : Bool) (c : Cursor) (q : ℕ) (xs ys : List ℕ) (
   pub moves-are : r ≡ markedIf exists (moves (resting c ys) (map (standing c q ys) xs))
 
 -- the same for a route
-pub record RouteSweepable (w : Edges) (xs ys : List ℕ) (from : ℕ) (l : List ℕ) : Type 0 where
-  pub first-laid : Laid (w .long1) xs
-  pub second-laid : Laid (w .long2) ys
+pub record RouteSweepable (w : EdgePair) (xs ys : List ℕ) (from : ℕ) (l : List ℕ) : Type 0 where
+  pub first-laid : Laid (w .length1) xs
+  pub second-laid : Laid (w .length2) ys
   pub room : from + length xs ≤ length l
 
-pub record RouteSwept (t : ℕ) (w : Edges) (s s′ : Side) (xs ys : List ℕ) (from : ℕ) (l : List ℕ) (r : ℕ) (l′ : List ℕ) : Type 0 where
-  pub positions-are : l′ ≡ placed from (routeMarks t (w .long1) (w .long2) (distanceBetween w) (w .same) xs ys s s′) l
-  pub moves-are : r ≡ routeSum t (w .long1) (w .long2) (distanceBetween w) (w .same) xs ys s s′
+pub record RouteSwept (t : ℕ) (w : EdgePair) (s s′ : Side) (xs ys : List ℕ) (from : ℕ) (l : List ℕ) (r : ℕ) (l′ : List ℕ) : Type 0 where
+  pub positions-are : l′ ≡ placed from (routeMarks t (w .length1) (w .length2) (distanceBetween w) (w .same) xs ys s s′) l
+  pub moves-are : r ≡ routeSum t (w .length1) (w .length2) (distanceBetween w) (w .same) xs ys s s′
 
 -- and for all six
-pub record EdgesSweepable (w : Edges) (xs ys out sums : List ℕ) : Type 0 where
-  pub first-laid : Laid (w .long1) xs
-  pub second-laid : Laid (w .long2) ys
+pub record EdgesSweepable (w : EdgePair) (xs ys out sums : List ℕ) : Type 0 where
+  pub first-laid : Laid (w .length1) xs
+  pub second-laid : Laid (w .length2) ys
   pub room : 6 * length xs ≤ length out
   pub sums-room : 6 ≤ length sums
 
-pub record EdgesSwept (t : ℕ) (w : Edges) (xs ys out sums out′ sums′ : List ℕ) : Type 0 where
-  pub positions-are : out′ ≡ written Accepted (sixMarks t (w .long1) (w .long2) (distanceBetween w) (w .same) xs ys) out
-  pub moves-are : sums′ ≡ written Accepted (sixSums t (w .long1) (w .long2) (distanceBetween w) (w .same) xs ys) sums
+pub record EdgesSwept (t : ℕ) (w : EdgePair) (xs ys out sums out′ sums′ : List ℕ) : Type 0 where
+  pub positions-are : out′ ≡ written Accepted (sixMarks t (w .length1) (w .length2) (distanceBetween w) (w .same) xs ys) out
+  pub moves-are : sums′ ≡ written Accepted (sixSums t (w .length1) (w .length2) (distanceBetween w) (w .same) xs ys) sums

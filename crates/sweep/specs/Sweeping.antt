@@ -7,9 +7,10 @@ use lib.ListN.{length}
 use Rattle.model.specs.Counting.{countIf}
 use Rattle.model.specs.Limits.{maxEvents}
 use Rattle.model.specs.Location.{Side, at-first, at-second, gap}
-use Rattle.prepare.specs.Offsets.{Ordered}
+use Rattle.edge_pair.specs.Offsets.{Ordered}
 use Rattle.sweep.specs.Cursors.{rest, moves}
-use Rattle.sweep.specs.Moving.{sideOf, reach}
+use Rattle.sweep.specs.Moving.{reach}
+use Rattle.edge_pair.specs.Edges.{sideOf}
 use Rattle.sweep.specs.declared.cursor.Cursor.{Cursor}
 
 -- how many events have a gap to a side of the second edge, of length q, below a number

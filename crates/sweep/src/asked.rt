@@ -1,11 +1,13 @@
 // What is asked of two edges: the checks, and the codes between their ends.
-use crate::sweeping::Edges;
+use edge_pair::EdgePair;
 use model::Check;
 use model::Network;
+use model::less;
+use model::value_at;
 ghost use mathlib.Core.Path.{_≡_};
-ghost use Prim.Native.Nat.{pred, _≤_};
+ghost use Prim.Native.Nat.{pred};
 ghost use lib.Dec.{eqb};
-ghost use lib.ListN.{length, getD};
+ghost use lib.ListN.{getD};
 ghost use Rattle.model.specs.Counting.{one-if};
 ghost use Rattle.model.specs.Events.{setSize};
 ghost use Rattle.model.specs.Network.{network};
@@ -83,10 +85,9 @@ pub struct EndCodes {
 
 // Node v's entry of a row.
 fn code_of(row: &[u32], v: u32) -> u32
-    requires { ⌜ (1 ≤ v) × (v ≤ length (now row)) ⌝ }
     ensures { λ r. ⌜ r ≡ getD (now (row .entry)) (pred v) 0 ⌝ }
 {
-    row[v as usize - 1]
+    value_at(row, less(v as u64, 1) as usize)
 }
 
 // A search from a node, and the codes to both ends of the edge at an index.
@@ -104,8 +105,8 @@ fn to_ends(
     ensures { λ r. ⌜ EndsReached (network nodes (now (firsts .entry)) (now (seconds .entry)) (now (lengths .entry))) bound source j r ⌝ }
 {
     distance::distances_from(nodes, firsts, seconds, lengths, source, bound, row);
-    let first = code_of(row, firsts[j]);
-    let second = code_of(row, seconds[j]);
+    let first = code_of(row, value_at(firsts, j));
+    let second = code_of(row, value_at(seconds, j));
     EndCodes { first, second }
 }
 
@@ -119,15 +120,17 @@ fn edges_with(
     i: usize,
     j: usize,
     row: &mut [u32],
-) -> Edges
+) -> EdgePair
     requires { ⌜ EdgesAsked (network nodes (now firsts) (now seconds) (now lengths)) i j (now row) ⌝ }
     ensures { λ r. ⌜ EdgesFound (network nodes (now (firsts .entry)) (now (seconds .entry)) (now (lengths .entry))) bound i j r ⌝ }
 {
-    let from_first = to_ends(nodes, firsts, seconds, lengths, firsts[i], bound, j, row);
-    let from_second = to_ends(nodes, firsts, seconds, lengths, seconds[i], bound, j, row);
-    Edges {
-        long1: lengths[i],
-        long2: lengths[j],
+    let first = value_at(firsts, i);
+    let second = value_at(seconds, i);
+    let from_first = to_ends(nodes, firsts, seconds, lengths, first, bound, j, row);
+    let from_second = to_ends(nodes, firsts, seconds, lengths, second, bound, j, row);
+    EdgePair {
+        length1: value_at(lengths, i),
+        length2: value_at(lengths, j),
         same: i == j,
         ff: from_first.first,
         fs: from_first.second,
@@ -145,7 +148,7 @@ pub(crate) fn edges_between(
     bound: u32,
     edge1: u32,
     edge2: u32,
-) -> Edges
+) -> EdgePair
     requires { ⌜ TwoEdges (network nodes (now firsts) (now seconds) (now lengths)) edge1 edge2 ⌝ }
     ensures { λ r. ⌜ EdgesFound (network nodes (now (firsts .entry)) (now (seconds .entry)) (now (lengths .entry))) bound (pred edge1) (pred edge2) r ⌝ }
 {

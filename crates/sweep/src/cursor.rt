@@ -1,9 +1,11 @@
 // One cursor: how many events of the second edge are reached from an event of the first, seen from an end of the second edge.
+use edge_pair::way;
 use model::less;
 ghost use mathlib.Core.Path.{_≡_};
 ghost use Prim.Native.Nat.{_≤_, _<_, _-_};
 ghost use lib.ListN.{length};
-ghost use Rattle.sweep.specs.Moving.{sideOf, reach, isWithin, fallenFrom, risenFrom, movedOn, routeCursor, routeOrNone, belowCursor, upToCursor};
+ghost use Rattle.sweep.specs.Moving.{reach, isWithin, fallenFrom, risenFrom, movedOn, routeCursor, belowCursor, upToCursor};
+ghost use Rattle.edge_pair.specs.Edges.{sideOf};
 ghost use Rattle.sweep.specs.Sweeping.{resting};
 
 // A cursor of any kind. It counts the events whose gap to the first or the second end of the second edge, with minus, is at most plus:
@@ -91,12 +93,12 @@ pub fn advance(cursor: Cursor, ys: &[u32], long: u32, x: u32, position: usize) -
     rise(ys, long, cursor.first, metres, position)
 }
 
-// The cursor of a route: its gap on the first edge is the offset if it is falling, else the length less the offset.
-// The code is one more than the metres between the two ends.
-pub(crate) fn route(threshold: u32, long: u32, falling: bool, code: u32, first: bool) -> Cursor
+// The cursor of a route: its gap on the first edge is the offset if it is falling, else the length less the offset. Where the code is
+// that of no route it reaches nothing from any offset of the first edge.
+pub fn route(threshold: u32, long: u32, falling: bool, code: u32, first: bool) -> Cursor
     ensures { λ r. ⌜ r ≡ routeCursor threshold long falling code first ⌝ }
 {
-    let metres = less(code as u64, 1);
+    let metres = way(code);
     if falling {
         return Cursor {
             falling,
@@ -111,21 +113,6 @@ pub(crate) fn route(threshold: u32, long: u32, falling: bool, code: u32, first: 
         minus: long as u64 + metres,
         first,
     }
-}
-
-// The same, or a cursor that reaches nothing from any offset of the first edge where the code is that of no route.
-pub fn route_or_none(threshold: u32, long: u32, falling: bool, code: u32, first: bool) -> Cursor
-    ensures { λ r. ⌜ r ≡ routeOrNone threshold long falling code first ⌝ }
-{
-    if code == 0 {
-        return Cursor {
-            falling,
-            plus: threshold,
-            minus: long as u64 + (threshold as u64 + 1),
-            first,
-        };
-    }
-    route(threshold, long, falling, code, first)
 }
 
 // The cursor of the offsets below own offset less threshold.

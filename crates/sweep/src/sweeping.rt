@@ -5,13 +5,12 @@ use crate::cursor::below;
 use crate::cursor::rest;
 use crate::cursor::route;
 use crate::cursor::up_to;
+use edge_pair::EdgePair;
+use edge_pair::code_between;
 use model::apart;
 use model::clear;
-ghost use mathlib.Core.Path.{_≡_};
-ghost use lib.ListN.{length, replicate};
-ghost use Rattle.sweep.specs.Moving.{sideOf};
+ghost use Rattle.edge_pair.specs.Edges.{sideOf};
 ghost use Rattle.sweep.specs.Sweeping.{Sweepable, Swept};
-ghost use Rattle.sweep.specs.Ends.{codeBetween};
 ghost use Rattle.sweep.specs.Six.{PartSweepable, PartSwept, RouteSweepable, RouteSwept, EdgesSweepable, EdgesSwept};
 
 // Sweeps one cursor over the events of the first edge. Each position, and the sum of the moves, is written as one more.
@@ -30,34 +29,6 @@ fn sweep(cursor: Cursor, long: u32, xs: &[u32], ys: &[u32], positions: &mut [u32
         i += 1;
     }
     moves as u32 + 1
-}
-
-// Two edges: their lengths, whether they are one, and the codes of the distances from the first's ends to the second's
-// (first to first, first to second, and so on): 0 beyond the bound, else one more than the metres.
-pub struct Edges {
-    pub long1: u32,
-    pub long2: u32,
-    pub same: bool,
-    pub ff: u32,
-    pub fs: u32,
-    pub sf: u32,
-    pub ss: u32,
-}
-
-// The code of the distance between an end of the first edge and one of the second.
-pub fn code_between(edges: Edges, first1: bool, first2: bool) -> u32
-    ensures { λ r. ⌜ r ≡ codeBetween edges (sideOf first1) (sideOf first2) ⌝ }
-{
-    if first1 {
-        if first2 {
-            return edges.ff;
-        }
-        return edges.fs;
-    }
-    if first2 {
-        return edges.sf;
-    }
-    edges.ss
 }
 
 // The positions of a cursor, written from a place on, and its moves; zeros where there is no cursor.
@@ -84,7 +55,7 @@ fn sweep_part(
 // The same for a route's cursor. A route whose distance is beyond the bound has none.
 fn sweep_route(
     threshold: u32,
-    edges: Edges,
+    edges: EdgePair,
     first1: bool,
     first2: bool,
     xs: &[u32],
@@ -96,14 +67,14 @@ fn sweep_route(
     ensures { λ r. ⌜ RouteSwept threshold edges (sideOf first1) (sideOf first2) (now (xs .entry)) (now (ys .entry)) from (now (positions .entry)) r (now (positions .exit)) ⌝ }
 {
     let code = code_between(edges, first1, first2);
-    let cursor = route(threshold, edges.long1, first1, code, first2);
-    sweep_part(code != 0, cursor, edges.long2, xs, ys, from, positions)
+    let cursor = route(threshold, edges.length1, first1, code, first2);
+    sweep_part(code != 0, cursor, edges.length2, xs, ys, from, positions)
 }
 
 // Sweeps the six cursors of two edges: the four routes', then the window's two, which are there if the edges are one.
 pub(crate) fn sweep_edges(
     threshold: u32,
-    edges: Edges,
+    edges: EdgePair,
     xs: &[u32],
     ys: &[u32],
     positions: &mut [u32],
@@ -118,7 +89,7 @@ pub(crate) fn sweep_edges(
     moves[2] = sweep_route(threshold, edges, false, true, xs, ys, 2 * n, positions);
     moves[3] = sweep_route(threshold, edges, false, false, xs, ys, 3 * n, positions);
     let low = below(threshold);
-    moves[4] = sweep_part(edges.same, low, edges.long2, xs, ys, 4 * n, positions);
+    moves[4] = sweep_part(edges.same, low, edges.length2, xs, ys, 4 * n, positions);
     let high = up_to(threshold);
-    moves[5] = sweep_part(edges.same, high, edges.long2, xs, ys, 5 * n, positions);
+    moves[5] = sweep_part(edges.same, high, edges.length2, xs, ys, 5 * n, positions);
 }

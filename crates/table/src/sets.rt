@@ -1,12 +1,11 @@
 // The table from lent lists.
 ghost use Rattle.model.specs.Network.{network};
-ghost use Rattle.prepare.specs.Counts.{CountsAnswered};
 ghost use Rattle.table.specs.Table.{TableAnswered};
 use crate::answers::Table;
 use crate::checks::check_table;
 use crate::columns::fill_columns;
-use crate::method::Method;
-use crate::method::method_for;
+use counting::Method;
+use counting::counts;
 use model::Check;
 use model::EventSet;
 use model::Thresholds;
@@ -14,58 +13,7 @@ use model::Thresholds;
 // A count of every set at every threshold.
 const COUNTS: usize = (EventSet::MAX_SET as usize + 1) * Thresholds::MAX_THRESHOLDS;
 
-// The counts of every set at every threshold, by the method that should be fastest.
-fn pair_counts(
-    nodes: u32,
-    firsts: &[u32],
-    seconds: &[u32],
-    lengths: &[u32],
-    sets: &[u32],
-    edges: &[u32],
-    offsets: &[u32],
-    thresholds: &[u32],
-    answers: &mut [u32],
-) -> Check
-    ensures { λ r. ⌜ CountsAnswered (network nodes (now (firsts .entry)) (now (seconds .entry)) (now (lengths .entry))) (now (sets .entry)) (now (edges .entry)) (now (offsets .entry)) (now (thresholds .entry)) (now (answers .entry)) r (now (answers .exit)) ⌝ }
-{
-    match method_for(nodes, firsts, seconds, lengths, sets, edges, thresholds) {
-        Method::RangeQuery => range_query::counts(
-            nodes,
-            firsts,
-            seconds,
-            lengths,
-            sets,
-            edges,
-            offsets,
-            thresholds,
-            answers,
-        ),
-        Method::CountAugmentation => count_augmentation::counts(
-            nodes,
-            firsts,
-            seconds,
-            lengths,
-            sets,
-            edges,
-            offsets,
-            thresholds,
-            answers,
-        ),
-        Method::NeighborSharing => neighbor_sharing::counts(
-            nodes,
-            firsts,
-            seconds,
-            lengths,
-            sets,
-            edges,
-            offsets,
-            thresholds,
-            answers,
-        ),
-    }
-}
-
-// The same with room for the counts lent. What the checks accept, the counts are given for.
+// The table with room for the counts of every set at every threshold lent. What the checks accept, the counts are given for.
 fn table_with(
     nodes: u32,
     firsts: &[u32],
@@ -98,7 +46,8 @@ fn table_with(
     if let Check::Refused(number, place) = verdict {
         return Table::Refused(number, place);
     }
-    pair_counts(
+    counts(
+        Method::Cheapest,
         nodes,
         firsts,
         seconds,

@@ -7,15 +7,15 @@
 //! folders are others, some 300 at the limits, each for a shorter time: the
 //! first over rings, the second over networks of all shapes, drawn at random.
 
-use std::fs::{self, File};
-use std::io;
-use std::os::unix::process::CommandExt;
-use std::path::{Path, PathBuf};
-use std::process::Command;
+mod folder;
 
+use std::fs;
+use std::io;
+use std::path::{Path, PathBuf};
+
+use folder::{run, Run};
 use reference::counts::Method;
-use reference::random::{self, Rng, Shape, Spread, Spread::Even, Spread::Far, Spread::Short};
-use reference::table::FILES;
+use reference::random::{self, Gathered, Gathering, Rng, Shape, Spread, Spread::Even, Spread::Far, Spread::Short};
 use reference::text::MAX_TEXT;
 
 struct Case {
@@ -31,43 +31,63 @@ struct Case {
     per_set: usize,
     /// 0 for all legs.
     on_legs: usize,
+    /// How reports gather on some of all legs; if in no way, each leg that has
+    /// any is as likely as another.
+    gathering: Option<Gathering>,
     thresholds: usize,
     spread: Spread,
 }
 
 #[rustfmt::skip]
 const CASES: [Case; 30] = [
-    Case { what: "tiny", nodes: 4, legs: 4, shape: None, longest: 9, sets: 3, per_set: 4, on_legs: 0, thresholds: 4, spread: Even },
-    Case { what: "reports 0", nodes: 512, legs: 1_024, shape: None, longest: 999, sets: 1, per_set: 900, on_legs: 0, thresholds: 64, spread: Even },
-    Case { what: "reports 1", nodes: 512, legs: 1_024, shape: None, longest: 999, sets: 1, per_set: 1_000, on_legs: 0, thresholds: 64, spread: Even },
-    Case { what: "reports 2", nodes: 512, legs: 1_024, shape: None, longest: 999, sets: 1, per_set: 2_000, on_legs: 0, thresholds: 64, spread: Even },
-    Case { what: "reports 3", nodes: 512, legs: 1_024, shape: None, longest: 999, sets: 1, per_set: 4_000, on_legs: 0, thresholds: 64, spread: Even },
-    Case { what: "reports 4", nodes: 512, legs: 1_024, shape: None, longest: 9, sets: 1, per_set: 6_600, on_legs: 0, thresholds: 64, spread: Even },
-    Case { what: "legs 1", nodes: 32, legs: 64, shape: None, longest: 999, sets: 1, per_set: 5_000, on_legs: 0, thresholds: 64, spread: Even },
-    Case { what: "legs 2", nodes: 128, legs: 256, shape: None, longest: 999, sets: 1, per_set: 5_000, on_legs: 0, thresholds: 64, spread: Even },
-    Case { what: "legs 3", nodes: 512, legs: 1_024, shape: None, longest: 999, sets: 1, per_set: 5_000, on_legs: 0, thresholds: 64, spread: Even },
-    Case { what: "thresholds 1", nodes: 512, legs: 1_024, shape: None, longest: 999, sets: 1, per_set: 5_000, on_legs: 0, thresholds: 1, spread: Even },
-    Case { what: "thresholds 2", nodes: 512, legs: 1_024, shape: None, longest: 999, sets: 1, per_set: 5_000, on_legs: 0, thresholds: 8, spread: Even },
-    Case { what: "thresholds 3", nodes: 512, legs: 1_024, shape: None, longest: 9, sets: 1, per_set: 6_600, on_legs: 0, thresholds: 8, spread: Far },
-    Case { what: "far threshold 1", nodes: 512, legs: 1_024, shape: None, longest: 9, sets: 1, per_set: 6_600, on_legs: 0, thresholds: 64, spread: Far },
-    Case { what: "far threshold 2", nodes: 512, legs: 1_024, shape: None, longest: 999, sets: 1, per_set: 5_000, on_legs: 0, thresholds: 64, spread: Far },
-    Case { what: "far threshold 3", nodes: 512, legs: 1_024, shape: None, longest: 999, sets: 1, per_set: 6_500, on_legs: 9, thresholds: 64, spread: Far },
-    Case { what: "short thresholds 1", nodes: 512, legs: 1_024, shape: None, longest: 999, sets: 1, per_set: 5_000, on_legs: 0, thresholds: 64, spread: Short },
-    Case { what: "short thresholds 2", nodes: 512, legs: 1_024, shape: None, longest: 999, sets: 1, per_set: 6_500, on_legs: 9, thresholds: 64, spread: Short },
-    Case { what: "short thresholds 3", nodes: 512, legs: 1_024, shape: None, longest: 9, sets: 1, per_set: 8_192, on_legs: 9, thresholds: 8, spread: Short },
-    Case { what: "short thresholds 4", nodes: 512, legs: 1_024, shape: None, longest: 999_999, sets: 1, per_set: 4_000, on_legs: 9, thresholds: 64, spread: Short },
-    Case { what: "32 sets", nodes: 512, legs: 1_024, shape: None, longest: 999, sets: 32, per_set: 155, on_legs: 0, thresholds: 64, spread: Even },
-    Case { what: "few legs 1", nodes: 512, legs: 1_024, shape: None, longest: 9, sets: 1, per_set: 8_192, on_legs: 9, thresholds: 64, spread: Even },
-    Case { what: "few legs 2", nodes: 512, legs: 1_024, shape: None, longest: 9, sets: 1, per_set: 8_192, on_legs: 9, thresholds: 8, spread: Even },
-    Case { what: "few legs 3", nodes: 512, legs: 1_024, shape: None, longest: 999, sets: 1, per_set: 6_500, on_legs: 9, thresholds: 64, spread: Even },
-    Case { what: "few legs 4", nodes: 512, legs: 1_024, shape: None, longest: 9, sets: 32, per_set: 240, on_legs: 9, thresholds: 64, spread: Even },
-    Case { what: "few legs 5", nodes: 512, legs: 1_024, shape: None, longest: 9, sets: 32, per_set: 240, on_legs: 9, thresholds: 1, spread: Even },
-    Case { what: "one leg 1", nodes: 512, legs: 1_024, shape: None, longest: 9, sets: 1, per_set: 8_192, on_legs: 1, thresholds: 64, spread: Even },
-    Case { what: "one leg 2", nodes: 512, legs: 1_024, shape: None, longest: 9, sets: 32, per_set: 240, on_legs: 1, thresholds: 64, spread: Even },
-    Case { what: "loops 1", nodes: 512, legs: 1_024, shape: Some(Shape::Basins), longest: 999, sets: 1, per_set: 5_000, on_legs: 0, thresholds: 64, spread: Even },
-    Case { what: "loops 2", nodes: 512, legs: 1_024, shape: Some(Shape::Basins), longest: 9, sets: 1, per_set: 8_192, on_legs: 9, thresholds: 64, spread: Even },
-    Case { what: "loops 3", nodes: 512, legs: 1_024, shape: Some(Shape::Basins), longest: 999, sets: 32, per_set: 155, on_legs: 0, thresholds: 64, spread: Even },
+    Case { what: "tiny", nodes: 4, legs: 4, shape: None, longest: 9, sets: 3, per_set: 4, on_legs: 0, gathering: None, thresholds: 4, spread: Even },
+    Case { what: "reports 0", nodes: 512, legs: 1_024, shape: None, longest: 999, sets: 1, per_set: 900, on_legs: 0, gathering: None, thresholds: 64, spread: Even },
+    Case { what: "reports 1", nodes: 512, legs: 1_024, shape: None, longest: 999, sets: 1, per_set: 1_000, on_legs: 0, gathering: None, thresholds: 64, spread: Even },
+    Case { what: "reports 2", nodes: 512, legs: 1_024, shape: None, longest: 999, sets: 1, per_set: 2_000, on_legs: 0, gathering: None, thresholds: 64, spread: Even },
+    Case { what: "reports 3", nodes: 512, legs: 1_024, shape: None, longest: 999, sets: 1, per_set: 4_000, on_legs: 0, gathering: None, thresholds: 64, spread: Even },
+    Case { what: "reports 4", nodes: 512, legs: 1_024, shape: None, longest: 9, sets: 1, per_set: 6_600, on_legs: 0, gathering: None, thresholds: 64, spread: Even },
+    Case { what: "legs 1", nodes: 32, legs: 64, shape: None, longest: 999, sets: 1, per_set: 5_000, on_legs: 0, gathering: None, thresholds: 64, spread: Even },
+    Case { what: "legs 2", nodes: 128, legs: 256, shape: None, longest: 999, sets: 1, per_set: 5_000, on_legs: 0, gathering: None, thresholds: 64, spread: Even },
+    Case { what: "legs 3", nodes: 512, legs: 1_024, shape: None, longest: 999, sets: 1, per_set: 5_000, on_legs: 0, gathering: None, thresholds: 64, spread: Even },
+    Case { what: "thresholds 1", nodes: 512, legs: 1_024, shape: None, longest: 999, sets: 1, per_set: 5_000, on_legs: 0, gathering: None, thresholds: 1, spread: Even },
+    Case { what: "thresholds 2", nodes: 512, legs: 1_024, shape: None, longest: 999, sets: 1, per_set: 5_000, on_legs: 0, gathering: None, thresholds: 8, spread: Even },
+    Case { what: "thresholds 3", nodes: 512, legs: 1_024, shape: None, longest: 9, sets: 1, per_set: 6_600, on_legs: 0, gathering: None, thresholds: 8, spread: Far },
+    Case { what: "far threshold 1", nodes: 512, legs: 1_024, shape: None, longest: 9, sets: 1, per_set: 6_600, on_legs: 0, gathering: None, thresholds: 64, spread: Far },
+    Case { what: "far threshold 2", nodes: 512, legs: 1_024, shape: None, longest: 999, sets: 1, per_set: 5_000, on_legs: 0, gathering: None, thresholds: 64, spread: Far },
+    Case { what: "far threshold 3", nodes: 512, legs: 1_024, shape: None, longest: 999, sets: 1, per_set: 6_500, on_legs: 9, gathering: None, thresholds: 64, spread: Far },
+    Case { what: "short thresholds 1", nodes: 512, legs: 1_024, shape: None, longest: 999, sets: 1, per_set: 5_000, on_legs: 0, gathering: None, thresholds: 64, spread: Short },
+    Case { what: "short thresholds 2", nodes: 512, legs: 1_024, shape: None, longest: 999, sets: 1, per_set: 6_500, on_legs: 9, gathering: None, thresholds: 64, spread: Short },
+    Case { what: "short thresholds 3", nodes: 512, legs: 1_024, shape: None, longest: 9, sets: 1, per_set: 8_192, on_legs: 9, gathering: None, thresholds: 8, spread: Short },
+    Case { what: "short thresholds 4", nodes: 512, legs: 1_024, shape: None, longest: 999_999, sets: 1, per_set: 4_000, on_legs: 9, gathering: None, thresholds: 64, spread: Short },
+    Case { what: "32 sets", nodes: 512, legs: 1_024, shape: None, longest: 999, sets: 32, per_set: 155, on_legs: 0, gathering: None, thresholds: 64, spread: Even },
+    Case { what: "few legs 1", nodes: 512, legs: 1_024, shape: None, longest: 9, sets: 1, per_set: 8_192, on_legs: 9, gathering: None, thresholds: 64, spread: Even },
+    Case { what: "few legs 2", nodes: 512, legs: 1_024, shape: None, longest: 9, sets: 1, per_set: 8_192, on_legs: 9, gathering: None, thresholds: 8, spread: Even },
+    Case { what: "few legs 3", nodes: 512, legs: 1_024, shape: None, longest: 999, sets: 1, per_set: 6_500, on_legs: 9, gathering: None, thresholds: 64, spread: Even },
+    Case { what: "few legs 4", nodes: 512, legs: 1_024, shape: None, longest: 9, sets: 32, per_set: 240, on_legs: 9, gathering: None, thresholds: 64, spread: Even },
+    Case { what: "few legs 5", nodes: 512, legs: 1_024, shape: None, longest: 9, sets: 32, per_set: 240, on_legs: 9, gathering: None, thresholds: 1, spread: Even },
+    Case { what: "one leg 1", nodes: 512, legs: 1_024, shape: None, longest: 9, sets: 1, per_set: 8_192, on_legs: 1, gathering: None, thresholds: 64, spread: Even },
+    Case { what: "one leg 2", nodes: 512, legs: 1_024, shape: None, longest: 9, sets: 32, per_set: 240, on_legs: 1, gathering: None, thresholds: 64, spread: Even },
+    Case { what: "loops 1", nodes: 512, legs: 1_024, shape: Some(Shape::Basins), longest: 999, sets: 1, per_set: 5_000, on_legs: 0, gathering: None, thresholds: 64, spread: Even },
+    Case { what: "loops 2", nodes: 512, legs: 1_024, shape: Some(Shape::Basins), longest: 9, sets: 1, per_set: 8_192, on_legs: 9, gathering: None, thresholds: 64, spread: Even },
+    Case { what: "loops 3", nodes: 512, legs: 1_024, shape: Some(Shape::Basins), longest: 999, sets: 32, per_set: 155, on_legs: 0, gathering: None, thresholds: 64, spread: Even },
 ];
+
+/// A line of reports that gather.
+fn gathered(line: Gathered) -> Case {
+    Case {
+        what: line.name,
+        nodes: Gathered::NODES,
+        legs: Gathered::LEGS,
+        shape: None,
+        longest: Gathered::LONGEST,
+        sets: line.sets,
+        per_set: line.per_set,
+        on_legs: 0,
+        gathering: Some(line.gathering),
+        thresholds: line.thresholds,
+        spread: line.spread,
+    }
+}
 
 /// What a line of this word is of.
 const LIMITS: &str = "limits";
@@ -80,7 +100,7 @@ fn limits() -> Vec<Case> {
         for thresholds in [1, 2, 4, 8, 16, 64] {
             for spread in [Even, Short, Far] {
                 for (longest, per_set) in [(9, if (1..=9).contains(&on_legs) { 8_192 } else { 6_600 }), (999, 5_000), (999_999, 4_000)] {
-                    cases.push(Case { what: LIMITS, nodes: 512, legs: 1_024, shape: None, longest, sets: 1, per_set, on_legs, thresholds, spread });
+                    cases.push(Case { what: LIMITS, nodes: 512, legs: 1_024, shape: None, longest, sets: 1, per_set, on_legs, gathering: None, thresholds, spread });
                 }
             }
         }
@@ -106,6 +126,7 @@ fn mixed() -> Vec<Case> {
             sets,
             per_set: rng.pick(&[8_192, 8_192, 4_000, 2_000], 0) / sets as usize,
             on_legs: rng.pick(&[0, 0, 0, 1, 3, 9, 9, 30, 100, 300], 0),
+            gathering: None,
             thresholds: rng.pick(&[1, 2, 3, 4, 8, 16, 32, 64, 64], 1),
             spread: rng.pick(&Spread::ALL, Even),
         }
@@ -118,6 +139,7 @@ fn label(case: &Case) -> String {
     match (case.what, case.shape) {
         (MIXED, Some(shape)) => format!("{}, legs of {}, {}", shape.name(), case.longest, case.spread.name()),
         (LIMITS, _) => format!("{LIMITS}, legs of {}, {}", case.longest, case.spread.name()),
+        (what, _) if case.gathering.is_some() => format!("{what}, {}", case.spread.name()),
         (what, _) => what.to_string(),
     }
 }
@@ -134,66 +156,24 @@ struct Laid {
 fn lay(folder: &Path, case: &Case) -> io::Result<Laid> {
     let name = format!("{} {} {}", label(case), case.on_legs, case.thresholds);
     let folder = folder.join(name.replace([' ', ','], "_"));
-    fs::create_dir_all(&folder)?;
     let mut rng = Rng::new(2026);
     let network = match case.shape {
         Some(shape) => shape.network(&mut rng, case.nodes, case.longest),
         None => random::ring_network(&mut rng, case.nodes, case.legs, case.longest),
     };
+    let draw = |rng: &mut Rng, per_set: usize| match case.gathering {
+        Some(gathering) => gathering.reports(rng, &network, case.sets, per_set),
+        None => random::reports(rng, &network, case.sets, per_set, case.on_legs),
+    };
     let mut per_set = case.per_set;
-    let mut reports = random::reports(&mut rng, &network, case.sets, per_set, case.on_legs);
+    let mut reports = draw(&mut rng, per_set);
     while case.what == MIXED && random::reports_text(&mut Rng::new(1), &reports).len() > MAX_TEXT - 8 {
         per_set -= per_set / 50 + 1;
-        reports = random::reports(&mut rng, &network, case.sets, per_set, case.on_legs);
+        reports = draw(&mut rng, per_set);
     }
     let thresholds = case.spread.thresholds(case.thresholds, case.longest);
-    let texts = [
-        random::network_text(&mut rng, &network),
-        random::reports_text(&mut rng, &reports),
-        random::thresholds_text(&mut rng, &thresholds),
-    ];
-    for (name, text) in FILES.iter().zip(texts) {
-        assert!(text.len() <= MAX_TEXT, "{}: {name} has {} bytes", case.what, text.len());
-        fs::write(folder.join(name), text)?;
-    }
+    folder::fill(&folder, &mut rng, &network, &reports, &thresholds)?;
     Ok(Laid { folder, legs: network.lengths.len(), per_set })
-}
-
-/// As the C library has it on 64-bit Linux: two times, then the peak in KB and
-/// thirteen numbers more.
-#[repr(C)]
-#[derive(Default)]
-struct Usage {
-    user: [i64; 2],
-    system: [i64; 2],
-    peak: i64,
-    rest: [i64; 13],
-}
-
-extern "C" {
-    fn wait4(pid: i32, status: *mut i32, options: i32, usage: *mut Usage) -> i32;
-}
-
-/// Milliseconds on the processor and peak KB of one run.
-#[derive(Clone, Copy)]
-struct Run {
-    time: f64,
-    peak: i64,
-}
-
-fn run(program: &Path, method: Option<Method>, folder: &Path, out: &Path) -> io::Result<Run> {
-    let mut command = Command::new(program);
-    command.args(method.map(Method::name)).current_dir(folder).stdout(File::create(out)?);
-    // SAFETY: it does nothing. With it the program is forked off: started the
-    // quick way, this program's own peak would count as the other's.
-    unsafe { command.pre_exec(|| Ok(())) };
-    let child = command.spawn()?;
-    let (mut status, mut usage) = (0, Usage::default());
-    // SAFETY: the C library fills in what is lent.
-    let ended = unsafe { wait4(child.id() as i32, &mut status, 0, &mut usage) };
-    assert!(ended == child.id() as i32 && status == 0, "{} ended with {status}", program.display());
-    let millis = |time: [i64; 2]| time[0] as f64 * 1e3 + time[1] as f64 / 1e3;
-    Ok(Run { time: millis(usage.user) + millis(usage.system), peak: usage.peak })
 }
 
 /// The plain program's fastest method, three turns of each.
@@ -245,14 +225,21 @@ fn main() -> io::Result<()> {
     let (cases, millis) = match word.as_str() {
         LIMITS => (limits(), 400.0),
         MIXED => (mixed(), 400.0),
-        _ => (CASES.into_iter().filter(|case| case.what.contains(&word)).collect(), 2_000.0),
+        _ => {
+            let lines = CASES.into_iter().chain(Gathered::ALL.map(gathered));
+            (lines.filter(|case| case.what.contains(&word)).collect(), 2_000.0)
+        }
     };
     let mut ratios = Vec::new();
     for case in &cases {
         let laid = lay(Path::new(&folder), case)?;
         let method = best(&plain, &laid.folder)?;
         let [a, b] = compare([(&proved, None), (&plain, Some(method))], &laid.folder, millis)?;
-        let on_legs = if case.on_legs == 0 { laid.legs } else { case.on_legs.min(laid.legs) };
+        let on_legs = match (case.gathering, case.on_legs) {
+            (Some(gathering), _) => format!("{}, {}", laid.legs, gathering.name()),
+            (None, 0) => laid.legs.to_string(),
+            (None, some) => some.min(laid.legs).to_string(),
+        };
         let ratio = a.time / b.time;
         println!(
             "| {} | {}, {} | {} of {} | {} | {} | {:.2} | {:.2} | {} | {ratio:.2} | {} | {} |",

@@ -1,7 +1,13 @@
 //! Times the proved library beside the plain one, in one run, on the same
 //! input: the least of many turns of each, taken by turns, in time on the
 //! processor. A word as argument leaves only the lines that have it. The word
-//! `methods` times the three proved methods beside each other instead.
+//! `methods` times the three proved methods beside each other instead, and the
+//! word `gathered` these and the table of the program that KC_PROGRAM names, on
+//! reports that gather.
+
+#[cfg(proved)]
+#[allow(dead_code)]
+mod folder;
 
 #[cfg(proved)]
 #[allow(dead_code)]
@@ -14,27 +20,37 @@ fn main() {
 }
 
 #[cfg(proved)]
-fn main() {
-    let methods = std::env::args().nth(1).is_some_and(|word| word == "methods");
-    if let Err(refusal) = if methods { bench::methods() } else { bench::all() } {
+fn main() -> std::io::Result<()> {
+    let ended = match std::env::args().nth(1).as_deref() {
+        Some("gathered") => return bench::gathered(),
+        Some("methods") => bench::methods(),
+        _ => bench::all(),
+    };
+    if let Err(refusal) = ended {
         println!("refused: {refusal:?}");
     }
+    Ok(())
 }
 
 #[cfg(proved)]
 mod bench {
+    use std::fs;
     use std::hint::black_box;
+    use std::io;
+    use std::path::Path;
     use std::time::Duration;
 
     use reference::calls;
     use reference::counts::Method;
     use reference::distance::{from_source, Adjacency};
     use reference::lists::Refusal;
-    use reference::model::Network;
-    use reference::random::{self, NetworkInput, ReportInput, Rng, Spread, Spread::Even, Spread::Far, Spread::Short};
+    use reference::model::{Network, Thresholds};
+    use reference::random::{self, Gathered, NetworkInput, ReportInput, Rng, Spread, Spread::Even, Spread::Far, Spread::Short};
+    use reference::table::{self, FILES};
     use reference::text;
     use reference::tuned;
 
+    use crate::folder;
     use crate::library;
 
     #[repr(C)]
@@ -185,6 +201,83 @@ mod bench {
             );
         }
         Ok(())
+    }
+
+    /// How often each is timed on reports that gather. It is odd.
+    const TURNS: usize = 7;
+
+    /// Of an odd number of times the middle one and the least.
+    fn middle_and_least(mut times: Vec<f64>) -> [f64; 2] {
+        times.sort_by(f64::total_cmp);
+        [times[times.len() / 2], times[0]]
+    }
+
+    /// What the program must print, from the counts of all sets.
+    fn printed(counts: &[u32], thresholds: &[u32]) -> String {
+        let rows = counts.chunks(thresholds.len()).map(|row| row.iter().map(|&count| u64::from(count)).collect());
+        let thresholds = Thresholds::new(thresholds).expect("good thresholds");
+        table::print(&table::rows(&rows.collect(), &thresholds))
+    }
+
+    /// Milliseconds of each proved method and of the table, the middle and the
+    /// least of all turns, taken by turns.
+    ///
+    /// The library has no function of the table. Its time is that of the
+    /// program less that of the program where the thresholds alone are refused,
+    /// which is what starting it and reading texts take. What is left has the
+    /// printing in it and the first touch of the working storage, which the
+    /// methods have touched before.
+    fn beside_table(line: &Gathered, program: &Path, place: &Path) -> io::Result<([[f64; 2]; 3], [f64; 2])> {
+        let (network, reports, thresholds) = line.lists();
+        let (whole, refused) = (place.join("whole"), place.join("refused"));
+        folder::fill(&whole, &mut Rng::new(2026), &network, &reports, &thresholds)?;
+        fs::create_dir_all(&refused)?;
+        for name in &FILES[..2] {
+            fs::copy(whole.join(name), refused.join(name))?;
+        }
+        let out = place.join("out");
+        let mut told = vec![0; calls::counts_wanted(&reports.sets, &thresholds)];
+        let mut methods = [const { Vec::new() }; 3];
+        let mut tables = Vec::new();
+        for _ in 0..TURNS {
+            let run = folder::run(program, None, &whole, &out)?.time;
+            let expected = fs::read_to_string(&out)?;
+            tables.push(run - folder::run(program, None, &refused, &out)?.time);
+            assert!(fs::read(&out)?.starts_with(b"refused,thresholds.csv,"), "{}: not refused", line.name);
+            for ((name, proved, _, _), times) in METHODS.into_iter().zip(&mut methods) {
+                told.fill(0);
+                let mut work = || {
+                    let _ = black_box(proved(&network, &reports, &thresholds, &mut told));
+                };
+                times.push(once(&mut work).as_secs_f64() * 1e3);
+                assert!(printed(&told, &thresholds) == expected, "{name}, {}: counts differ", line.name);
+            }
+        }
+        Ok((methods.map(middle_and_least), middle_and_least(tables)))
+    }
+
+    /// The proved methods beside the table, on reports that gather: the middle
+    /// times, and the table's time over that of the fastest method, by these and
+    /// by the least times, which other work on the machine changes less.
+    pub fn gathered() -> io::Result<()> {
+        let Some(program) = std::env::var_os("KC_PROGRAM").filter(|path| !path.is_empty()) else {
+            println!("set KC_PROGRAM to the path of the proved program (rt check kcount)");
+            return Ok(());
+        };
+        let program = fs::canonicalize(program)?;
+        let place = std::env::temp_dir().join(format!("gathered-{}", std::process::id()));
+        println!("| Lists | sets of reports | on legs | thresholds | spread | range query | count augmentation | neighbour sharing | table | table over the fastest | by least times |");
+        println!("|---|---|---|---|---|---|---|---|---|---|---|");
+        for line in &Gathered::ALL {
+            let (times, table) = beside_table(line, &program, &place)?;
+            let ratios = [0, 1].map(|k| table[k] / times.iter().map(|time| time[k]).fold(f64::MAX, f64::min));
+            println!(
+                "| {} | {} of {} | {}, {} | {} | {} | {:.1} | {:.1} | {:.1} | {:.1} | {:.2} | {:.2} |",
+                line.name, line.sets, line.per_set, Gathered::LEGS, line.gathering.name(), line.thresholds, line.spread.name(),
+                times[0][0], times[1][0], times[2][0], table[0], ratios[0], ratios[1],
+            );
+        }
+        fs::remove_dir_all(&place)
     }
 
     pub fn all() -> Result<(), Refusal> {

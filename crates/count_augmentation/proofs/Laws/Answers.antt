@@ -18,7 +18,7 @@ use Rattle.model.specs.declared.check.Check.{Check}
 use Rattle.model.specs.declared.check.Check.the-variants.{Accepted, Refused}
 use Rattle.count_augmentation.specs.Augmented.{stored, augmented, augmentCheck, Augmented}
 use Rattle.count_augmentation.specs.Events.{EventsStored}
-use Rattle.prepare.specs.Offsets.{OnEdge}
+use Rattle.edge_pair.specs.Offsets.{OnEdge}
 use Rattle.count_augmentation.proofs.Laws.Places.{no-farther-first, no-farther-second}
 use Rattle.count_augmentation.proofs.Laws.Verdict.{AugmentAccepted}
 

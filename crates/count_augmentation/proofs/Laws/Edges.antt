@@ -1,24 +1,34 @@
 -- A laid-out set stored edge by edge: the events of an edge are a part of the list.
-use mathlib.Core.List.{List}
+use mathlib.Core.List.{List, _++_}
 use mathlib.Core.Path.{_≡_, refl, sym, ap, ap₂, _∙_}
 use Prim.Native.Nat.{ℕ, suc, pred, _+_, _-_, _≤_, _<_}
 use native.Mathlib.Decide.{decLt}
 use native.Mathlib.Omega.{arith}
 use borrow.Author.Tests.{lt-ltb, le-ltb, le-leb, lt-leb}
 use borrow.Rule.Slice.PartMut.{putMid, take-put}
-use lib.ListN.{length, getD, drop}
-use lib.Seq.{getD-take, getD-drop}
+use lib.ListN.{length, getD, take, drop, length-take, length-drop, length-append}
+use lib.Seq.{getD-take, getD-drop, take-at, drop-at, length-take-le}
 use Rattle.model.proofs.Laws.Equals.{Equals}
 use Rattle.model.proofs.Laws.Pieces.{part, part-length, part-at}
 use Rattle.model.proofs.Laws.Stretch.{before-edge, through-edge, having-part, rise-by-one}
 use Rattle.model.specs.Events.{having}
+use Rattle.model.specs.Limits.{maxEvents}
 use Rattle.count_augmentation.specs.Events.{LaidOut, EventsStored}
-use Rattle.prepare.specs.Offsets.{Ordered, OnEdge}
+use Rattle.edge_pair.specs.Offsets.{Ordered, OnEdge}
 use Rattle.count_augmentation.specs.Storing.{NumbersStored, atMost, atLeast}
 use Rattle.count_augmentation.proofs.Laws.Places.{count-before, stored-first, stored-second}
-use Rattle.count_augmentation.proofs.Laws.Storage.{RunCut, put-part, put-length}
 
--- what stands in front of a part that has been put back, and in it
+-- a part that has been put back
+pub put-part : (a k : ℕ) (l part : List ℕ) → a ≤ length l → length part ≡ k → take k (drop a (putMid a k l part)) ≡ part
+put-part a k l part h e =
+    ap (take k) (drop-at (take a l) (part ++ drop k (drop a l)) a (length-take-le a l h)) ∙ take-at part (drop k (drop a l)) k e
+
+-- it is as long as it was, for the whole is
+pub put-length : (from to : ℕ) (l part : List ℕ) → from ≤ to → to ≤ length l → length (putMid from (to - from) l part) ≡ length l → length part ≡ to - from
+put-length from to l part up within e =
+    omega (arith, simp (length-append, length-take, length-drop) at e)
+
+-- what stands in front of it, and in it
 put-before : (a k : ℕ) (l new : List ℕ) (i : ℕ) → a ≤ length l → i < a → getD (putMid a k l new) i 0 ≡ getD l i 0
 put-before a k l new i h u =
     sym (getD-take a (putMid a k l new) i 0 u) ∙ ap (λ (r : List ℕ). getD r i 0) (take-put a k l new h) ∙ getD-take a l i 0 u
@@ -27,6 +37,14 @@ put-inside : (a k : ℕ) (l new : List ℕ) (i : ℕ) → a ≤ length l → len
 put-inside a k l new i h e u =
     sym (getD-take k (drop a (putMid a k l new)) i 0 u ∙ getD-drop a (putMid a k l new) i 0)
     ∙ ap (λ (r : List ℕ). getD r i 0) (put-part a k l new h e)
+
+-- the events from one place up to before another are cut out, all within the lists
+pub record RunCut (xs first second : List ℕ) (from to : ℕ) : Type 0 where
+  pub in-order : from ≤ to
+  pub in-offsets : to ≤ length xs
+  pub in-first : to ≤ length first
+  pub in-second : to ≤ length second
+  pub few : to ≤ maxEvents
 
 -- the events in front of a place are stored, and the rest lie on other edges
 pub record StoredUpTo (es xs first₀ second₀ : List ℕ) (from : ℕ) (first second : List ℕ) : Type 0 where
@@ -97,7 +115,6 @@ module _ {es xs first₀ second₀ : List ℕ} (laid : LaidOut es xs) (first-roo
         in-first = omega (arith, run .within, so-far .first-long);
         in-second = omega (arith, run .within, so-far .second-long);
         few = omega (arith, run .within, laid .few);
-        rising = rising;
       }
 
   -- no offset of the part is beyond the last
@@ -127,17 +144,18 @@ module _ {es xs first₀ second₀ : List ℕ} (laid : LaidOut es xs) (first-roo
             let on : from + (k - from) ≡ k = omega arith in
             rw on at (inside-at (k - from) (omega arith))
 
-  pub edge-stored : (pf ps : List ℕ) → length (putMid from (to - from) first pf) ≡ length first → length (putMid from (to - from) second ps) ≡ length second → ((p : ℕ) → OnEdge p (part from to xs) → NumbersStored p (part from to xs) pf ps) → StoredUpTo es xs first₀ second₀ to (putMid from (to - from) first pf) (putMid from (to - from) second ps)
+  pub edge-stored : (pf ps : List ℕ) → length (putMid from (to - from) first pf) ≡ length first → length (putMid from (to - from) second ps) ≡ length second → (Ordered (part from to xs) → length (part from to first) ≡ length (part from to xs) → length (part from to second) ≡ length (part from to xs) → length (part from to xs) ≤ maxEvents → (p : ℕ) → OnEdge p (part from to xs) → NumbersStored p (part from to xs) pf ps) → StoredUpTo es xs first₀ second₀ to (putMid from (to - from) first pf) (putMid from (to - from) second ps)
   edge-stored pf ps hf hs stored =
-      let numbers = stored last up-to-last in
+      let cut = edge-cut in
+      let numbers = stored rising (part-length from to first (cut .in-first) ∙ sym long) (part-length from to second (cut .in-second) ∙ sym long) (omega (arith, long, cut .few)) last up-to-last in
       record {
         within = run .within;
         first-long = hf ∙ so-far .first-long;
         second-long = hs ∙ so-far .second-long;
         apart = λ i j h l m. go i j h l m (decLt i from);
         events = record {
-          first-at = numbers-at atMost first pf (edge-cut .in-first) hf (so-far .events .first-at) (stored-first last (part from to xs) pf ps up-to-last numbers);
-          second-at = numbers-at atLeast second ps (edge-cut .in-second) hs (so-far .events .second-at) (stored-second last (part from to xs) pf ps up-to-last numbers);
+          first-at = numbers-at atMost first pf (cut .in-first) hf (so-far .events .first-at) (stored-first last (part from to xs) pf ps up-to-last numbers);
+          second-at = numbers-at atLeast second ps (cut .in-second) hs (so-far .events .second-at) (stored-second last (part from to xs) pf ps up-to-last numbers);
         };
       }
     where

@@ -12,8 +12,10 @@ use Rattle.model.proofs.Laws.Arrival.{count-places}
 use Rattle.model.specs.Counting.{one-if, countIf}
 use Rattle.model.specs.Location.{at-first, at-second, gap}
 use Rattle.count_augmentation.specs.Augmented.{noFarther}
-use Rattle.prepare.specs.Offsets.{Ordered, OnEdge}
-use Rattle.count_augmentation.specs.Storing.{atMost, atLeast, NumbersStored, Parted, storedBefore, placeOf, readBelow, readFrom}
+use Rattle.edge_pair.specs.Offsets.{Ordered, OnEdge}
+use Rattle.count_augmentation.specs.LookUp.{storedBefore}
+use Rattle.count_augmentation.specs.Storing.{atMost, atLeast, NumbersStored}
+use Rattle.count_augmentation.specs.Thresholds.{Parted}
 
 -- a test that holds before a place and fails from it on counts the place
 pub count-before : (test : ℕ → Bool) (xs : List ℕ) (place : ℕ) → place ≤ length xs → ((k : ℕ) → k < place → test (getD xs k 0) ≡ true) → ((k : ℕ) → place ≤ k → k < length xs → test (getD xs k 0) ≡ false) → countIf test xs ≡ place
@@ -36,12 +38,6 @@ count-not test (x ∷ xs) = go (test x) (count-not test xs)
     go true e = omega arith
     go false e = omega arith
 
--- the place that parts offsets at a limit is their place
-pub place-is : (xs : List ℕ) (limit place : ℕ) → Parted xs limit place → placeOf xs limit ≡ place
-unfolding placeOf
-place-is xs limit place parted =
-    count-before _ xs place (parted .within) (λ k l. lt-ltb _ _ (parted .before k l)) (λ k l m. le-ltb _ _ (parted .after k l m))
-
 -- nothing stands past the end
 past-end : (l : List ℕ) (k : ℕ) → length l ≤ k → getD l k 0 ≡ 0
 past-end [] k h = refl
@@ -57,20 +53,6 @@ pub stored-some : (near : List ℕ) (n : ℕ) → 1 ≤ n → getD near (n - 1) 
 unfolding storedBefore
 stored-some near zero h = absurd (omega arith)
 stored-some near (suc n) h = ap (λ (k : ℕ). getD near k 0) {x = suc n - 1} {y = n} (omega arith)
-
--- what is read there
-pub before-first : (xs near : List ℕ) (limit place : ℕ) → Parted xs limit place → place ≡ 0 → 0 ≡ readBelow xs near limit
-before-first xs near limit place parted e = rw (place-is xs limit place parted) (stored-none near place e)
-
-pub before-later : (xs near : List ℕ) (limit place : ℕ) → Parted xs limit place → 1 ≤ place → getD near (place - 1) 0 ≡ readBelow xs near limit
-before-later xs near limit place parted h = rw (place-is xs limit place parted) (stored-some near place h)
-
-pub behind-last : (xs near : List ℕ) (limit place : ℕ) → Parted xs limit place → place ≡ length xs → length near ≡ length xs → 0 ≡ readFrom xs near limit
-behind-last xs near limit place parted e long =
-    sym (ap (λ (k : ℕ). getD near k 0) (place-is xs limit place parted) ∙ past-end near place (omega arith))
-
-pub at-place : (xs near : List ℕ) (limit place : ℕ) → Parted xs limit place → getD near place 0 ≡ readFrom xs near limit
-at-place xs near limit place parted = ap (λ (k : ℕ). getD near k 0) (sym (place-is xs limit place parted))
 
 -- a test that fails before a place and holds from it on counts what is left
 pub count-after : (test : ℕ → Bool) (xs : List ℕ) (place : ℕ) → place ≤ length xs → ((k : ℕ) → k < place → test (getD xs k 0) ≡ false) → ((k : ℕ) → place ≤ k → k < length xs → test (getD xs k 0) ≡ true) → countIf test xs ≡ length xs - place
@@ -99,26 +81,26 @@ module _ (xs : List ℕ) (rising : Ordered xs) where
     pub below-stored : 0 < place → atMost xs (getD xs (pred place) 0) ≡ countIf (λ y. ltb y limit) xs
     unfolding atMost
     below-stored h =
-        let within = parted .within in
+        let within = parted .not-below .within in
         let last = parted .before (pred place) (omega arith) in
         count-before _ xs place within
         (λ k l. le-leb _ _ (rising .in-order k (pred place) (omega arith) (omega arith)))
-        (λ k l m. lt-leb (getD xs k 0) (getD xs (pred place) 0) (omega (arith, parted .after k l m)))
-        ∙ sym (count-before _ xs place within (λ k l. lt-ltb _ _ (parted .before k l)) (λ k l m. le-ltb _ _ (parted .after k l m)))
+        (λ k l m. lt-leb (getD xs k 0) (getD xs (pred place) 0) (omega (arith, parted .not-below .after k l m)))
+        ∙ sym (count-before _ xs place within (λ k l. lt-ltb _ _ (parted .before k l)) (λ k l m. le-ltb _ _ (parted .not-below .after k l m)))
 
     pub none-below : place ≡ 0 → countIf (λ y. ltb y limit) xs ≡ 0
-    none-below e = count-before _ xs 0 (omega arith) (λ k l. absurd (omega arith)) (λ k l m. le-ltb _ _ (parted .after k (omega arith) m))
+    none-below e = count-before _ xs 0 (omega arith) (λ k l. absurd (omega arith)) (λ k l m. le-ltb _ _ (parted .not-below .after k (omega arith) m))
 
     -- what is stored with the first offset not below a limit is how many are not below it
     pub from-stored : place < length xs → atLeast xs (getD xs place 0) ≡ countIf (λ y. leb limit y) xs
     unfolding atLeast
     from-stored h =
-        let within = parted .within in
-        let first = parted .after place (omega arith) h in
+        let within = parted .not-below .within in
+        let first = parted .not-below .after place (omega arith) h in
         count-after _ xs place within
         (λ k l. lt-leb (getD xs place 0) (getD xs k 0) (omega (arith, parted .before k l)))
         (λ k l m. le-leb _ _ (rising .in-order place k l m))
-        ∙ sym (count-after _ xs place within (λ k l. lt-leb _ _ (parted .before k l)) (λ k l m. le-leb _ _ (parted .after k l m)))
+        ∙ sym (count-after _ xs place within (λ k l. lt-leb _ _ (parted .before k l)) (λ k l m. le-leb _ _ (parted .not-below .after k l m)))
 
     pub none-from : place ≡ length xs → countIf (λ y. leb limit y) xs ≡ 0
     none-from e =
@@ -155,23 +137,23 @@ module _ (p : ℕ) (xs near-first near-second : List ℕ) (on-edge : OnEdge p xs
   pub stored-second : (k : ℕ) → k < length xs → getD near-second k 0 ≡ atLeast xs (getD xs k 0)
   stored-second k h = stored .second-at k h ∙ no-farther-second p xs on-edge _ (on-edge .on k h)
 
-  -- read from right numbers, they are how many offsets are below a limit and how many are not
+  -- read from right numbers at a place, they are how many offsets are below a limit and how many are not
   module _ (rising : Ordered xs) (limit place : ℕ) (parted : Parted xs limit place) where
-    pub read-below : readBelow xs near-first limit ≡ countIf (λ y. ltb y limit) xs
-    read-below = rw (place-is xs limit place parted) (go place refl)
+    pub read-below : storedBefore near-first place ≡ countIf (λ y. ltb y limit) xs
+    read-below = go place refl
       where
         later : (n : ℕ) → suc n ≡ place → getD near-first n 0 ≡ countIf (λ y. ltb y limit) xs
         later n e =
             let last : n ≡ pred place = omega arith in
-            stored-first n (omega (arith, parted .within)) ∙ ap (λ (k : ℕ). atMost xs (getD xs k 0)) last ∙ below-stored xs rising limit place parted (omega arith)
+            stored-first n (omega (arith, parted .not-below .within)) ∙ ap (λ (k : ℕ). atMost xs (getD xs k 0)) last ∙ below-stored xs rising limit place parted (omega arith)
 
         go : (n : ℕ) → n ≡ place → storedBefore near-first n ≡ countIf (λ y. ltb y limit) xs
         go zero e = unfold storedBefore in sym (none-below xs rising limit place parted (sym e))
         go (suc n) e = unfold storedBefore in later n e
 
-    pub read-from : length near-second ≡ length xs → readFrom xs near-second limit ≡ countIf (λ y. leb limit y) xs
-    read-from long = rw (place-is xs limit place parted) (go (decLe (length xs) place))
+    pub read-from : length near-second ≡ length xs → getD near-second place 0 ≡ countIf (λ y. leb limit y) xs
+    read-from long = go (decLe (length xs) place)
       where
         go : Dec (length xs ≤ place) → getD near-second place 0 ≡ countIf (λ y. leb limit y) xs
-        go (yes h) = past-end near-second place (omega arith) ∙ sym (none-from xs rising limit place parted (omega (arith, parted .within)))
+        go (yes h) = past-end near-second place (omega arith) ∙ sym (none-from xs rising limit place parted (omega (arith, parted .not-below .within)))
         go (no h) = stored-second place (omega arith) ∙ from-stored xs rising limit place parted (omega arith)

@@ -1,23 +1,90 @@
--- What an event reaches of a run: first places, last places and a window, each told by a stored number.
+-- What is looked up for an event: first places, last places and a window, each told by a stored number.
 use mathlib.Core.Bool.{Bool, true, false, not, _&&_, _||_}
 use mathlib.Core.List.{List}
 use mathlib.Core.Path.{_≡_, refl, sym, ap, ap₂, _∙_}
 use Prim.Native.Nat.{ℕ, suc, _+_, _-_, _≤_, _<_, min, max}
-use native.Mathlib.Decide.{decLt}
+use native.Mathlib.Decide.{ℕ-discrete, decLt, decLe}
 use native.Mathlib.Nat.{le-trans}
 use native.Mathlib.Omega.{arith}
-use borrow.Author.Tests.{le-leb, lt-leb, lt-ltb, le-ltb, leb-true, leb-false, ltb-true, ltb-false, not-true}
+use borrow.Author.Tests.{le-leb, lt-leb, lt-ltb, le-ltb, leb-true, leb-false, ltb-true, not-true, eq-eqb, ne-eqb}
 use lib.Dec.{leb, ltb}
 use lib.ListN.{length, getD}
 use Rattle.model.proofs.Laws.Arrival.{in-window, no-place}
-use Rattle.model.proofs.Laws.Counting.{count-mono, count-at-most}
-use Rattle.model.proofs.Laws.Cover.{cover-list, first-places, last-places}
+use Rattle.model.proofs.Laws.Counting.{count-cong, count-mono, count-at-most, sum-below-cong}
+use Rattle.model.proofs.Laws.Cover.{none-pass, all-pass, cover-list, first-places, last-places}
 use Rattle.model.specs.Counting.{countIf, covered}
 use Rattle.model.specs.Distance.{difference}
-use Rattle.count_augmentation.specs.Reach.{isReached, reached, lookedByEnds, lookedAround, lookedUp, Run}
-use Rattle.prepare.specs.Offsets.{Ordered, OnEdge}
-use Rattle.count_augmentation.specs.Storing.{NumbersStored, Parted, storedBefore, placeOf, storedLast, readBelow, readFrom}
-use Rattle.count_augmentation.proofs.Laws.Places.{count-before, count-not, place-is, before-first, behind-last, read-below, read-from}
+use Rattle.model.specs.Location.{at-first, at-second}
+use Rattle.edge_pair.proofs.Laws.Arrival.{reached-by-ends}
+use Rattle.edge_pair.specs.Offsets.{Ordered, Laid}
+use Rattle.edge_pair.specs.Ways.{toEnd}
+use Rattle.edge_pair.specs.Within.{isReached, reachedPairs}
+use Rattle.edge_pair.specs.declared.edges.EdgePair.{EdgePair}
+use Rattle.count_augmentation.specs.LookUp.{storedBefore, storedLast, readBelow, readFrom, readFirst, readSecond, lookedByEnds, lookedAround, reachFrom, lookedPart, lookedUpBy, lookedUpPairs}
+use Rattle.count_augmentation.specs.Storing.{NumbersStored}
+use Rattle.count_augmentation.specs.Thresholds.{someFrom}
+use Rattle.count_augmentation.proofs.Laws.Halving.{place-parted}
+use Rattle.count_augmentation.proofs.Laws.Places.{count-not, read-below, read-from}
+
+-- what is read for an end, by whether it is within reach
+pub first-none : (xs near : List ℕ) (reach : ℕ) → reach ≡ 0 → 0 ≡ readFirst xs near reach
+unfolding readFirst
+first-none xs near reach e = sym (simp (eq-eqb reach 0 e))
+
+pub first-some : (xs near : List ℕ) (reach limit : ℕ) → limit ≡ reach → (limit ≡ 0 → ⊥) → readBelow xs near limit ≡ readFirst xs near reach
+unfolding readFirst
+first-some xs near reach limit e some = rw (← e, ne-eqb limit 0 some) refl
+
+pub second-none : (q : ℕ) (xs near : List ℕ) (reach : ℕ) → reach ≡ 0 → 0 ≡ readSecond q xs near reach
+unfolding readSecond
+second-none q xs near reach e = sym (simp (eq-eqb reach 0 e))
+
+pub second-some : (q : ℕ) (xs near : List ℕ) (reach found limit : ℕ) → found ≡ reach → (found ≡ 0 → ⊥) → limit ≡ suc q - found → readFrom xs near limit ≡ readSecond q xs near reach
+unfolding readSecond
+second-some q xs near reach found limit e some l = rw (← e, ne-eqb found 0 some, ← l) refl
+
+-- the first places, the last, and those from the last w of n on up to before another place: told by equal numbers
+pub around-as : (n : ℕ) {r p p′ l l′ below w w′ u u′ : ℕ} → r ≡ covered n p l below u → below ≡ n - w → p ≡ p′ → l ≡ l′ → w ≡ w′ → u ≡ u′ → r ≡ covered n p′ l′ (n - w′) u′
+around-as n is begins first last window upto = rw (is, begins, first, last, window, upto) refl
+
+-- they are no more than the three numbers together
+pub around-few : (n p l w u : ℕ) {r below : ℕ} → r ≡ covered n p l below u → below ≡ n - w → r ≤ p + l + w
+around-few n p l w u is begins = rw (is, begins) (le-trans (less-of (n - (min (n - w) (n - l) - p)) _) (without n p l w))
+  where
+    less-of : (a b : ℕ) → a - b ≤ a
+    less-of a b = omega arith
+
+    without : (n p l w : ℕ) → n - (min (n - w) (n - l) - p) ≤ p + l + w
+    without n p l w = omega arith
+
+-- what is looked up, by its cases
+module _ (w : EdgePair) (t x : ℕ) (ys near-first near-second : List ℕ) where
+  pub whole-up : w .length2 < (suc t - toEnd w at-first x) + (suc t - toEnd w at-second x) → lookedUpBy w t x ys near-first near-second ≡ storedLast near-first
+  unfolding lookedUpBy reachFrom
+  whole-up h = simp (lt-ltb (w .length2) ((suc t - toEnd w at-first x) + (suc t - toEnd w at-second x)) h)
+
+  pub part-up : (suc t - toEnd w at-first x) + (suc t - toEnd w at-second x) ≤ w .length2 → lookedUpBy w t x ys near-first near-second ≡ lookedPart w t x ys near-first near-second
+  unfolding lookedUpBy reachFrom
+  part-up h = simp (le-ltb (w .length2) ((suc t - toEnd w at-first x) + (suc t - toEnd w at-second x)) h)
+
+  pub own-part : w .same ≡ true → lookedAround (w .length2) (suc t - toEnd w at-first x) (suc t - toEnd w at-second x) t x ys near-first near-second ≡ lookedPart w t x ys near-first near-second
+  unfolding lookedPart reachFrom
+  own-part e = sym (simp e)
+
+  pub other-part : w .same ≡ false → lookedByEnds (w .length2) (suc t - toEnd w at-first x) (suc t - toEnd w at-second x) ys near-first near-second ≡ lookedPart w t x ys near-first near-second
+  unfolding lookedPart reachFrom
+  other-part e = sym (simp e)
+
+  -- with both ends beyond the threshold nothing is, on another edge
+  pub nothing-up : t < someFrom (w .same) (toEnd w at-first x) (toEnd w at-second x) → lookedUpBy w t x ys near-first near-second ≡ 0
+  nothing-up h = go (w .same) refl h
+    where
+      go : (own : Bool) → w .same ≡ own → t < someFrom own (toEnd w at-first x) (toEnd w at-second x) → lookedUpBy w t x ys near-first near-second ≡ 0
+      go true e l = absurd (unfold someFrom in omega (arith, l))
+      go false e l =
+          let beyond : t < min (toEnd w at-first x) (toEnd w at-second x) = unfold someFrom in l in
+          part-up (omega arith) ∙ sym (other-part e)
+          ∙ unfold lookedByEnds in omega (arith, first-none ys near-first (suc t - toEnd w at-first x) (omega arith), second-none (w .length2) ys near-second (suc t - toEnd w at-second x) (omega arith))
 
 -- how many offsets are below a limit, and how many are not
 abbrev below-limit : List ℕ → ℕ → ℕ
@@ -57,154 +124,123 @@ summed : (l m n : ℕ) → m ≤ l → n ≤ l → min (m + n) l ≡ covered l m
 summed l m n h k =
     rw (no-gap m (l - n), max-self m) (omega arith)
 
--- the same places told by equal numbers
-pub covered-as : (n : ℕ) {p p′ l l′ b b′ u u′ : ℕ} → p ≡ p′ → l ≡ l′ → b ≡ b′ → u ≡ u′ → covered n p l b u ≡ covered n p′ l′ b′ u′
-covered-as n first last below upto = rw (first, last, below, upto)
+-- the offset y of an edge of length q is reached from an end, by reaches f and s, or lies in the window around x on its own edge
+abbrev inReach : ℕ → ℕ → ℕ → Bool → ℕ → ℕ → ℕ → Bool
+inReach q f s own t x y = (ltb y f || ltb (q - y) s) || (own && leb (difference x y) t)
 
--- nothing is within reach
-pub nothing-reached : (q : ℕ) (ys : List ℕ) (f s t x : ℕ) → f ≡ 0 → s ≡ 0 → 0 ≡ reached q f s false t x ys
-unfolding reached isReached
-nothing-reached q ys f s t x e g =
-    sym (count-before _ ys 0 (omega arith) (λ k l. absurd (omega arith))
-    (λ k l m. simp (le-ltb (getD ys k 0) f (omega arith), le-ltb (q - getD ys k 0) s (omega arith))))
+-- a gap is within a reach exactly when the way and the gap are within the threshold
+way-reach : (t u y : ℕ) → leb (u + y) t ≡ ltb y (suc t - u)
+way-reach t u y = go (decLe (u + y) t)
+  where
+    go : Dec (u + y ≤ t) → leb (u + y) t ≡ ltb y (suc t - u)
+    go (yes h) = le-leb (u + y) t h ∙ sym (lt-ltb y (suc t - u) (omega arith))
+    go (no h) = lt-leb (u + y) t (omega arith) ∙ sym (le-ltb y (suc t - u) (omega arith))
+
+-- the routes between two edges say the same
+reached-in : (t : ℕ) → t < 4294967296 → (w : EdgePair) (x y : ℕ) → inReach (w .length2) (suc t - toEnd w at-first x) (suc t - toEnd w at-second x) (w .same) t x y ≡ isReached t w x y
+reached-in t small w x y =
+    sym (reached-by-ends t small w x y
+    ∙ ap₂ (λ (a b : Bool). (a || b) || (w .same && leb (difference x y) t)) (way-reach t (toEnd w at-first x) y) (way-reach t (toEnd w at-second x) (w .length2 - y)))
 
 -- the whole edge is within reach of its two ends together: each place of one or of the other
 second-holds : (a w : Bool) → ((a || true) || w) ≡ true
 second-holds true w = refl
 second-holds false w = refl
 
-place-reached : (q f s : ℕ) (own : Bool) (t x y : ℕ) → y ≤ q → q < f + s → isReached q f s own t x y ≡ true
-unfolding isReached
+place-reached : (q f s : ℕ) (own : Bool) (t x y : ℕ) → y ≤ q → q < f + s → inReach q f s own t x y ≡ true
 place-reached q f s own t x y on h = go (decLt y f)
   where
     go : Dec (y < f) → ((ltb y f || ltb (q - y) s) || (own && leb (difference x y) t)) ≡ true
     go (yes l) = rw (lt-ltb y f l) refl
     go (no l) = rw (lt-ltb (q - y) s (omega arith)) (second-holds (ltb y f) _)
 
-all-reached : (q : ℕ) (ys : List ℕ) → OnEdge q ys → (f s : ℕ) (own : Bool) (t x : ℕ) → q < f + s → length ys ≡ reached q f s own t x ys
-unfolding reached
-all-reached q ys on-edge f s own t x h =
-    sym (count-before _ ys (length ys) (omega arith) (λ k l. place-reached q f s own t x (getD ys k 0) (on-edge .on k l) h) (λ k l m. absurd (omega arith)))
+-- the run on an edge of length q, with right numbers beside it
+module _ {q : ℕ} {ys near-first near-second : List ℕ} (laid : Laid q ys) (first-long : length near-first ≡ length ys) (second-long : length near-second ≡ length ys) (stored : NumbersStored q ys near-first near-second) where
+  -- what is read is how many offsets are below a limit, and how many are not
+  below-read : (limit : ℕ) → readBelow ys near-first limit ≡ below-limit ys limit
+  below-read limit = read-below q ys near-first near-second (laid .on-edge) stored (laid .ordered) limit _ (place-parted ys limit (laid .ordered))
 
-module _ (q : ℕ) (ys : List ℕ) (rising : Ordered ys) (on-edge : OnEdge q ys) (f s t x : ℕ) where
-  -- the first and the last places
-  second-last : (k : ℕ) → k < length ys → ltb (q - getD ys k 0) s ≡ leb (length ys - from-limit ys (suc q - s)) k
-  second-last k h = second-limit q s (getD ys k 0) (on-edge .on k h) ∙ from-last ys rising (suc q - s) k h
+  from-read : (limit : ℕ) → readFrom ys near-second limit ≡ from-limit ys limit
+  from-read limit = read-from q ys near-first near-second (laid .on-edge) stored (laid .ordered) limit _ (place-parted ys limit (laid .ordered)) second-long
 
-  -- from the two ends
-  reached-by-ends : covered (length ys) (below-limit ys f) (from-limit ys (suc q - s)) (below-limit ys f) (below-limit ys f) ≡ reached q f s false t x ys
-  unfolding reached isReached
-  reached-by-ends =
-      sym (cover-list ys (λ y. ltb y f) (λ y. ltb (q - y) s) (λ y. false) (below-limit ys f) (from-limit ys (suc q - s)) (below-limit ys f) (below-limit ys f)
-      (omega arith) (below-first ys rising f) second-last (λ k h. no-place (below-limit ys f) k))
+  -- the whole run's number is its size
+  all-read : storedLast near-first ≡ length ys
+  all-read =
+      ap (storedBefore near-first) first-long
+      ∙ read-below q ys near-first near-second (laid .on-edge) stored (laid .ordered) (suc q) (length ys)
+      (record { not-below = record { within = omega arith; after = λ k h m. absurd (omega arith) }; before = λ k h. omega (arith, laid .on-edge .on k h) })
+      ∙ all-pass _ ys (λ k h. lt-ltb (getD ys k 0) (suc q) (omega (arith, laid .on-edge .on k h)))
 
-  -- the sum of both, at most all
-  ends-summed : (m n : ℕ) → m ≡ below-limit ys f → n ≡ from-limit ys (suc q - s) → min (m + n) (length ys) ≡ reached q f s false t x ys
-  ends-summed m n first last =
-      summed (length ys) m n (rw first (count-at-most _ ys)) (rw last (count-at-most _ ys))
-      ∙ ap₂ (λ (m n : ℕ). covered (length ys) m n m m) first last ∙ reached-by-ends
-
-  -- the window does not end before it begins
-  window-opens : length ys - from-limit ys (x - t) ≤ below-limit ys (x + t + 1)
-  window-opens =
-      omega (
-        arith,
-        count-not (λ y. leb (x - t) y) ys,
-        count-mono (λ y. not (leb (x - t) y)) (λ y. ltb y (x + t + 1)) ys (λ y e. lt-ltb y (x + t + 1) (omega (arith, leb-false (x - t) y (not-true _ e)))),
-      )
-
-  -- from the two ends and in the window
-  reached-around : covered (length ys) (below-limit ys f) (from-limit ys (suc q - s)) (length ys - from-limit ys (x - t)) (below-limit ys (x + t + 1)) ≡ reached q f s true t x ys
-  unfolding reached isReached
-  reached-around =
-      sym (cover-list ys (λ y. ltb y f) (λ y. ltb (q - y) s) (λ y. leb (difference x y) t) (below-limit ys f) (from-limit ys (suc q - s)) (length ys - from-limit ys (x - t)) (below-limit ys (x + t + 1))
-      window-opens (below-first ys rising f) second-last
-      (λ k h. in-window x (getD ys k 0) t ∙ ap₂ _&&_ (from-last ys rising (x - t) k h) (below-first ys rising (x + t + 1) k h)))
-
--- what is looked up, by its cases
-module _ (q f s t x : ℕ) (ys near-first near-second : List ℕ) where
-  pub whole-up : (own : Bool) → q < f + s → storedLast near-first ≡ lookedUp q f s own t x ys near-first near-second
-  unfolding lookedUp
-  whole-up own h = rw (lt-ltb q (f + s) h)
-
-  pub around-up : f + s ≤ q → lookedAround q f s t x ys near-first near-second ≡ lookedUp q f s true t x ys near-first near-second
-  unfolding lookedUp
-  around-up h = rw (le-ltb q (f + s) h)
-
-  pub ends-up : f + s ≤ q → lookedByEnds q f s ys near-first near-second ≡ lookedUp q f s false t x ys near-first near-second
-  unfolding lookedUp
-  ends-up h = rw (le-ltb q (f + s) h)
-
-  -- it is no greater than the whole run's number and the size of the run
-  pub looked-small : (own : Bool) (m : ℕ) → storedLast near-first ≤ m → length ys ≤ m → lookedUp q f s own t x ys near-first near-second ≤ m
-  unfolding lookedAround lookedByEnds
-  looked-small own m small few = go own (decLt q (f + s))
+  -- from an end that is beyond the threshold none is reached
+  first-read : (f : ℕ) → readFirst ys near-first f ≡ below-limit ys f
+  first-read f = go (ℕ-discrete f 0)
     where
-      less-twice : (n a b : ℕ) → n - a - b ≤ n
-      less-twice n a b = omega arith
+      go : Dec (f ≡ 0) → readFirst ys near-first f ≡ below-limit ys f
+      go (yes e) = sym (first-none ys near-first f e) ∙ sym (none-pass _ ys (λ k h. le-ltb (getD ys k 0) f (omega arith)))
+      go (no e) = sym (first-some ys near-first f f refl e) ∙ below-read f
 
-      go : (own : Bool) → Dec (q < f + s) → lookedUp q f s own t x ys near-first near-second ≤ m
-      go own (yes h) = rw (← whole-up own h) small
-      go true (no h) = rw (← around-up (omega arith)) (le-trans (less-twice (length ys) _ _) few)
-      go false (no h) = rw (← ends-up (omega arith)) (omega arith)
+  second-read : (s : ℕ) → readSecond q ys near-second s ≡ from-limit ys (suc q - s)
+  second-read s = go (ℕ-discrete s 0)
+    where
+      go : Dec (s ≡ 0) → readSecond q ys near-second s ≡ from-limit ys (suc q - s)
+      go (yes e) = sym (second-none q ys near-second s e) ∙ sym (none-pass _ ys (λ k h. lt-leb (suc q - s) (getD ys k 0) (omega (arith, laid .on-edge .on k h))))
+      go (no e) = sym (second-some q ys near-second s s _ refl e refl) ∙ from-read (suc q - s)
 
--- what the look-ups read of the numbers of a run
-module _ {q : ℕ} {ys near-first near-second : List ℕ} (run : Run q ys near-first near-second) where
-  parted : (limit : ℕ) → Parted ys limit (below-limit ys limit)
-  parted limit =
-      record {
-        within = count-at-most _ ys;
-        before = λ k h. ltb-true (getD ys k 0) limit (below-first ys (run .rising) limit k (omega (arith, count-at-most (λ y. ltb y limit) ys)) ∙ lt-ltb k _ h);
-        after = λ k h l. ltb-false (getD ys k 0) limit (below-first ys (run .rising) limit k l ∙ le-ltb k _ h);
-      }
+  module _ (f s t x : ℕ) where
+    -- the first and the last places
+    second-last : (k : ℕ) → k < length ys → ltb (q - getD ys k 0) s ≡ leb (length ys - from-limit ys (suc q - s)) k
+    second-last k h = second-limit q s (getD ys k 0) (laid .on-edge .on k h) ∙ from-last ys (laid .ordered) (suc q - s) k h
 
-  -- none of its offsets is below 0, and all are below a limit past the edge
-  parted-first : (limit : ℕ) → limit ≡ 0 → Parted ys limit 0
-  parted-first limit e = record { within = omega arith; before = λ k h. absurd (omega arith); after = λ k h l. omega arith }
+    -- from the two ends: the sum of both, at most all
+    looked-by-ends : lookedByEnds q f s ys near-first near-second ≡ countIf (inReach q f s false t x) ys
+    unfolding lookedByEnds
+    looked-by-ends =
+        ap₂ (λ (m n : ℕ). min (m + n) (length ys)) (first-read f) (second-read s)
+        ∙ summed (length ys) (below-limit ys f) (from-limit ys (suc q - s)) (count-at-most _ ys) (count-at-most _ ys)
+        ∙ sym (cover-list ys (λ y. ltb y f) (λ y. ltb (q - y) s) (λ y. false) (below-limit ys f) (from-limit ys (suc q - s)) (below-limit ys f) (below-limit ys f)
+        (omega arith) (below-first ys (laid .ordered) f) second-last (λ k h. no-place (below-limit ys f) k))
 
-  parted-last : (limit : ℕ) → q < limit → Parted ys limit (length ys)
-  parted-last limit l = record { within = omega arith; before = λ k h. omega (arith, run .on-edge .on k h); after = λ k h m. absurd (omega arith) }
+    -- the window does not end before it begins
+    window-opens : length ys - from-limit ys (x - t) ≤ below-limit ys (x + t + 1)
+    window-opens =
+        omega (
+          arith,
+          count-not (λ y. leb (x - t) y) ys,
+          count-mono (λ y. not (leb (x - t) y)) (λ y. ltb y (x + t + 1)) ys (λ y e. lt-ltb y (x + t + 1) (omega (arith, leb-false (x - t) y (not-true _ e)))),
+        )
 
-  -- with no end within reach nothing is read
-  pub nothing-read : (f s : ℕ) → f ≡ 0 → s ≡ 0 → 0 ≡ lookedByEnds q f s ys near-first near-second
-  unfolding lookedByEnds
-  nothing-read f s e g =
-      omega (arith, before-first ys near-first f 0 (parted-first f e) refl, behind-last ys near-second (suc q - s) (length ys) (parted-last (suc q - s) (omega arith)) refl (run .second-length))
+    -- from the two ends and in the window
+    looked-around : lookedAround q f s t x ys near-first near-second ≡ countIf (inReach q f s true t x) ys
+    unfolding lookedAround
+    looked-around =
+        around-as (length ys) refl refl (first-read f) (second-read s) (from-read (x - t)) (below-read (x + t + 1))
+        ∙ sym (cover-list ys (λ y. ltb y f) (λ y. ltb (q - y) s) (λ y. leb (difference x y) t) (below-limit ys f) (from-limit ys (suc q - s)) (length ys - from-limit ys (x - t)) (below-limit ys (x + t + 1))
+        window-opens (below-first ys (laid .ordered) f) second-last
+        (λ k h. in-window x (getD ys k 0) t ∙ ap₂ _&&_ (from-last ys (laid .ordered) (x - t) k h) (below-first ys (laid .ordered) (x + t + 1) k h)))
 
-  pub nothing-looked-up : (t x : ℕ) → lookedUp q 0 0 false t x ys near-first near-second ≡ 0
-  nothing-looked-up t x = sym (nothing-read 0 0 refl refl ∙ ends-up q 0 0 t x ys near-first near-second (omega arith))
+    all-looked : (own : Bool) → q < f + s → storedLast near-first ≡ countIf (inReach q f s own t x) ys
+    all-looked own h = all-read ∙ sym (all-pass _ ys (λ k l. place-reached q f s own t x (getD ys k 0) (laid .on-edge .on k l) h))
 
-  -- with right numbers it is how many offsets are below a limit, and how many are not
-  module _ (stored : NumbersStored q ys near-first near-second) where
-    below-read : (limit : ℕ) → readBelow ys near-first limit ≡ below-limit ys limit
-    below-read limit = read-below q ys near-first near-second (run .on-edge) stored (run .rising) limit _ (parted limit)
+-- with right numbers what is looked up is what is reached
+module _ (w : EdgePair) {ys near-first near-second : List ℕ} (laid : Laid (w .length2) ys) (first-long : length near-first ≡ length ys) (second-long : length near-second ≡ length ys) (stored : NumbersStored (w .length2) ys near-first near-second) (t : ℕ) where
+  abbrev from-first : ℕ → ℕ
+  from-first x = suc t - toEnd w at-first x
 
-    from-read : (limit : ℕ) → readFrom ys near-second limit ≡ from-limit ys limit
-    from-read limit = read-from q ys near-first near-second (run .on-edge) stored (run .rising) limit _ (parted limit) (run .second-length)
+  abbrev from-second : ℕ → ℕ
+  from-second x = suc t - toEnd w at-second x
 
-    -- the whole run's number is its size
-    all-read : storedLast near-first ≡ length ys
-    unfolding placeOf
-    all-read =
-        let place : placeOf ys (suc q) ≡ length ys = place-is ys (suc q) (length ys) (parted-last (suc q) (omega arith)) in
-        ap (storedBefore near-first) (run .first-length ∙ sym place) ∙ below-read (suc q) ∙ place
+  part-reached : (x : ℕ) (own : Bool) → w .same ≡ own → lookedPart w t x ys near-first near-second ≡ countIf (inReach (w .length2) (from-first x) (from-second x) own t x) ys
+  part-reached x true e = sym (own-part w t x ys near-first near-second e) ∙ looked-around laid first-long second-long stored (from-first x) (from-second x) t x
+  part-reached x false e = sym (other-part w t x ys near-first near-second e) ∙ looked-by-ends laid first-long second-long stored (from-first x) (from-second x) t x
 
-    module _ (f s t x : ℕ) where
-      pub looked-by-ends : lookedByEnds q f s ys near-first near-second ≡ reached q f s false t x ys
-      unfolding lookedByEnds
-      looked-by-ends = ends-summed q ys (run .rising) (run .on-edge) f s t x _ _ (below-read f) (from-read (suc q - s))
+  event-reached : t < 4294967296 → (x : ℕ) → lookedUpBy w t x ys near-first near-second ≡ countIf (isReached t w x) ys
+  event-reached small x =
+      go (decLt (w .length2) (from-first x + from-second x)) ∙ count-cong _ _ ys (reached-in t small w x)
+    where
+      go : Dec (w .length2 < from-first x + from-second x) → lookedUpBy w t x ys near-first near-second ≡ countIf (inReach (w .length2) (from-first x) (from-second x) (w .same) t x) ys
+      go (yes h) = whole-up w t x ys near-first near-second h ∙ all-looked laid first-long second-long stored (from-first x) (from-second x) t x (w .same) h
+      go (no h) = part-up w t x ys near-first near-second (omega arith) ∙ part-reached x (w .same) refl
 
-      pub looked-around : lookedAround q f s t x ys near-first near-second ≡ reached q f s true t x ys
-      unfolding lookedAround
-      looked-around =
-          covered-as (length ys) (below-read f) (from-read (suc q - s)) (ap (λ (n : ℕ). length ys - n) (from-read (x - t))) (below-read (x + t + 1))
-          ∙ reached-around q ys (run .rising) (run .on-edge) f s t x
-
-      -- what is looked up is what is reached
-      pub looked-reached : (own : Bool) → lookedUp q f s own t x ys near-first near-second ≡ reached q f s own t x ys
-      looked-reached own = go own (decLt q (f + s))
-        where
-          go : (own : Bool) → Dec (q < f + s) → lookedUp q f s own t x ys near-first near-second ≡ reached q f s own t x ys
-          go own (yes h) = sym (whole-up q f s t x ys near-first near-second own h) ∙ all-read ∙ all-reached q ys (run .on-edge) f s own t x h
-          go true (no h) = sym (around-up q f s t x ys near-first near-second (omega arith)) ∙ looked-around
-          go false (no h) = sym (ends-up q f s t x ys near-first near-second (omega arith)) ∙ looked-by-ends
+  pub pairs-reached : t < 4294967296 → (xs : List ℕ) → lookedUpPairs w t xs ys near-first near-second ≡ reachedPairs t w xs ys
+  unfolding lookedUpPairs reachedPairs
+  pairs-reached small xs = sum-below-cong (length xs) _ _ (λ i h. event-reached small (getD xs i 0))

@@ -2,13 +2,14 @@
 use mathlib.Core.Bool.{Bool, true, false, cond, _&&_, _||_, false≢true}
 use mathlib.Core.List.{List, [], _∷_}
 use mathlib.Core.Path.{_≡_, refl, sym, ap, _∙_}
-use Prim.Native.Nat.{_≤_, _<_}
+use Prim.Native.Nat.{ℕ, zero, suc, _≤_, _<_}
 use native.Mathlib.Omega.{arith}
 use borrow.Author.Tests.{ltb-true, ltb-false, eqb-true, eqb-false, lt-ltb, le-ltb, eq-eqb, ne-eqb}
 use lib.Dec.{ltb, eqb}
 use lib.ListN.{length}
 use Rattle.model.specs.Counting.{Rearranged, nothing, keep, swap, chain}
 use Rattle.model.specs.Events.{Event, before, insert, sorted, InOrder, empty, one, more}
+use Rattle.model.specs.PairCount.{eventAt}
 use Rattle.model.proofs.Laws.Lists.{rearranged-self, rearranged-length}
 
 -- what `before` tests, and its opposite
@@ -116,9 +117,40 @@ insert-behind e f (g ∷ gs) t (more s o) i = go (before g e) i
     go false j = more (before-flip f e t) j
 
 -- what stands behind the first is in order too
-in-order-rest : {e : Event} {es : List Event} → InOrder (e ∷ es) → InOrder es
+pub in-order-rest : {e : Event} {es : List Event} → InOrder (e ∷ es) → InOrder es
 in-order-rest one = empty
 in-order-rest (more s o) = o
+
+-- not before one that is not before a third: not before the third
+not-before : (e f g : Event) → before f e ≡ false → before g f ≡ false → before g e ≡ false
+not-before e f g p q = go (before g e) refl
+  where
+    go : (b : Bool) → before g e ≡ b → before g e ≡ false
+    go true t = absurd (false≢true (sym p ∙ before-through e f g q t))
+    go false t = t
+
+-- of a list in order, no element comes before the first
+pub first-in-order : (e : Event) (es : List Event) → InOrder (e ∷ es) → (j : ℕ) → j < length es → before (eventAt es j) e ≡ false
+first-in-order e [] o j h = absurd (omega arith)
+first-in-order e (f ∷ es) (more s o) zero h = s
+first-in-order e (f ∷ es) (more s o) (suc j) h = not-before e f (eventAt es j) s (first-in-order f es o j (omega arith))
+
+-- nor before any that stands in front of it
+pub in-order-at : (es : List Event) → InOrder es → (i j : ℕ) → i < j → j < length es → before (eventAt es j) (eventAt es i) ≡ false
+in-order-at [] o i j l h = absurd (omega arith)
+in-order-at (e ∷ es) o zero zero l h = absurd (omega arith)
+in-order-at (e ∷ es) o zero (suc j) l h = first-in-order e es o j (omega arith)
+in-order-at (e ∷ es) o (suc i) zero l h = absurd (omega arith)
+in-order-at (e ∷ []) o (suc i) (suc j) l h = absurd (omega arith)
+in-order-at (e ∷ f ∷ es) (more s o) (suc i) (suc j) l h = in-order-at (f ∷ es) o i j (omega arith) (omega arith)
+
+-- on one edge, that is a matter of offsets
+pub same-edge : (e f : Event) → e .edge ≡ f .edge → before f e ≡ false → e .offset ≤ f .offset
+same-edge e f p b = go (before-false f e b)
+  where
+    go : NotLower f e → e .offset ≤ f .offset
+    go (higher-edge l) = absurd (omega arith)
+    go (not-lower-offset q l) = l
 
 -- inserting keeps the order
 insert-in-order : (e : Event) (es : List Event) → InOrder es → InOrder (insert e es)

@@ -15,9 +15,20 @@ use Rattle.model.proofs.Laws.CheckParts.{order-accepted}
 use Rattle.model.proofs.Laws.Refusal.{both-accepted}
 use Rattle.model.specs.Checks.{laidOutCheck}
 use Rattle.model.specs.Counting.{countIf, one-if}
-use Rattle.model.specs.Events.{Event, event, before, having}
+use Rattle.model.specs.Events.{Event, event, before, having, setSize}
 use Rattle.model.specs.Network.{Network}
 use Rattle.model.specs.declared.check.Check.the-variants.{Accepted}
+
+-- as much stands beside a number as it has entries
+pub having-length : {A : Type 0} (s : ℕ) (sets : List ℕ) (xs : List A) → length sets ≡ length xs → length (having s sets xs) ≡ setSize sets s
+unfolding having setSize countIf one-if
+having-length s [] xs e = refl
+having-length s (t ∷ sets) [] e = absurd (omega arith)
+having-length s (t ∷ sets) (x ∷ xs) e = go (eqb t s) (having-length s sets xs (omega arith))
+  where
+    go : (b : Bool) → length (having s sets xs) ≡ setSize sets s → length (cond b (x ∷ having s sets xs) (having s sets xs)) ≡ one-if b + setSize sets s
+    go true rest = omega arith
+    go false rest = omega arith
 
 -- the numbers of a list rise, equals allowed
 abbrev pub Rise : List ℕ → Type 0

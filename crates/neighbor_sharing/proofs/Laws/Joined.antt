@@ -1,116 +1,89 @@
--- The six positions at an event of the first edge say how many events of the second edge some route or the window reaches.
+-- The six cursors, where they stand at an offset of the first edge, join what some route or the window reaches on the second.
 use mathlib.Core.Bool.{Bool, true, false, not, cond, _&&_, _||_}
 use mathlib.Core.List.{List}
 use mathlib.Core.Path.{_≡_, _∙_, sym, ap, ap₂}
 use Prim.Native.Nat.{ℕ, _+_, _-_, _≤_, _<_, max}
-use native.Mathlib.Decide.{decLe, decLt}
 use native.Mathlib.Omega.{arith}
-use borrow.Author.Tests.{leb-true, le-leb, lt-leb, ltb-true, lt-ltb, le-ltb}
 use lib.Dec.{leb, ltb}
 use lib.ListN.{length, getD}
-use Rattle.model.specs.Counting.{countIf, covered}
-use Rattle.model.specs.Distance.{Distance, difference}
-use Rattle.model.specs.Location.{Side, at-first, at-second, gap, reaches}
 use Rattle.model.proofs.Laws.Arrival.{below-max, from-max, by-arrival, in-window, no-place, not-below}
-use Rattle.model.proofs.Laws.Counting.{count-cong, count-mono, sum-below-cong}
-use Rattle.model.proofs.Laws.Cover.{cover-list, first-places}
-use Rattle.model.proofs.Laws.Routes.{some-route}
-use Rattle.sweep.proofs.Laws.Nearest.{Down, first-reached, second-reached}
-use Rattle.sweep.proofs.Laws.Positions.{reaches-less}
-use Rattle.sweep.specs.Cursors.{position, below, upTo}
-use Rattle.neighbor_sharing.specs.Joined.{joinedOf, joinedFrom, sweptSum, reachedBy, isReached, reachedPairs}
-use Rattle.sweep.specs.Ends.{distanceBetween}
-use Rattle.neighbor_sharing.specs.Stands.{routeStand, standsAt}
-use Rattle.prepare.specs.Offsets.{Ordered}
-use Rattle.sweep.specs.declared.sweeping.Edges.{Edges}
+use Rattle.model.proofs.Laws.Counting.{count-cong}
+use Rattle.model.proofs.Laws.Cover.{cover-list}
+use Rattle.model.specs.Counting.{countIf, covered}
+use Rattle.model.specs.Distance.{difference}
+use Rattle.model.specs.Location.{Side, at-first, at-second, gap}
+use Rattle.edge_pair.specs.Edges.{sideOf, distanceBetween}
+use Rattle.edge_pair.specs.Offsets.{Ordered}
+use Rattle.edge_pair.specs.Within.{reachedBy, isReached}
+use Rattle.edge_pair.specs.declared.edges.EdgePair.{EdgePair}
+use Rattle.sweep.proofs.Laws.Kinds.{route-reaches}
+use Rattle.sweep.proofs.Laws.Nearest.{first-within, last-within}
+use Rattle.sweep.proofs.Laws.Step.{reached-more}
+use Rattle.sweep.specs.Moving.{reach, routeCursor, belowCursor, upToCursor}
+use Rattle.sweep.specs.Sweeping.{standing}
+use Rattle.neighbor_sharing.specs.Stands.{routeOf}
 
-module _ (t p x q : ℕ) (d : Side → Side → Distance) (ys : List ℕ) (o : Ordered ys) where
-  abbrev at : Side → Side → ℕ
-  at s s′ = position t p s (d s s′) q s′ ys x
+module _ (t : ℕ) (small : t < 4294967296) (w : EdgePair) (ys : List ℕ) (o : Ordered ys) (x : ℕ) (on : x ≤ w .length1) where
+  abbrev at : Bool → Bool → ℕ
+  at first1 first2 = standing (routeOf t w first1 first2) (w .length2) ys x
 
-  abbrev by : Side → Side → ℕ → Bool
-  by s s′ y = reaches t (gap p s x) (d s s′) (gap q s′ y)
+  abbrev low : ℕ
+  low = standing (belowCursor t) (w .length2) ys x
+
+  abbrev high : ℕ
+  high = standing (upToCursor t) (w .length2) ys x
 
   -- one route reaches the first or the last places, by the end at which it arrives
-  down : (s s′ : Side) → Down (λ g. reaches t (gap p s x) (d s s′) g)
-  down s s′ a b h e = reaches-less t (gap p s x) (gap p s x) (d s s′) a b (omega arith) h e
+  by-reach : (first1 first2 : Bool) (y : ℕ) → reachedBy t w (sideOf first1) (sideOf first2) x y ≡ ltb (gap (w .length2) (sideOf first2) y) (reach (routeOf t w first1 first2) x)
+  unfolding reachedBy distanceBetween
+  by-reach first1 first2 y = sym (route-reaches t (w .length1) _ x first1 first2 _ small on)
 
-  first-by : (s : Side) (k : ℕ) → k < length ys → by s at-first (getD ys k 0) ≡ ltb k (at s at-first)
-  unfolding position
-  first-by s k h = first-reached (λ g. reaches t (gap p s x) (d s at-first) g) (down s at-first) q ys o k h
+  first-by : (first1 : Bool) (k : ℕ) → k < length ys → reachedBy t w (sideOf first1) at-first x (getD ys k 0) ≡ ltb k (at first1 true)
+  unfolding standing routeCursor sideOf gap
+  first-by first1 k h = by-reach first1 true (getD ys k 0) ∙ first-within (w .length2) _ ys o k h
 
-  last-by : (s : Side) (k : ℕ) → k < length ys → by s at-second (getD ys k 0) ≡ leb (length ys - at s at-second) k
-  unfolding position
-  last-by s k h = second-reached (λ g. reaches t (gap p s x) (d s at-second) g) (down s at-second) q ys o k h
+  last-by : (first1 : Bool) (k : ℕ) → k < length ys → reachedBy t w (sideOf first1) at-second x (getD ys k 0) ≡ leb (length ys - at first1 false) k
+  unfolding standing routeCursor sideOf gap
+  last-by first1 k h = by-reach first1 false (getD ys k 0) ∙ last-within (w .length2) _ ys o k h
 
   -- the two routes that arrive at one end
   abbrev arrives : Side → ℕ → Bool
-  arrives s′ y = by at-first s′ y || by at-second s′ y
+  arrives s′ y = reachedBy t w at-first s′ x y || reachedBy t w at-second s′ x y
 
-  first-arrives : (k : ℕ) → k < length ys → arrives at-first (getD ys k 0) ≡ ltb k (max (at at-first at-first) (at at-second at-first))
-  first-arrives k h =
-      ap₂ _||_ (first-by at-first k h) (first-by at-second k h) ∙ sym (below-max k (at at-first at-first) (at at-second at-first))
+  first-arrives : (k : ℕ) → k < length ys → arrives at-first (getD ys k 0) ≡ ltb k (max (at true true) (at false true))
+  unfolding sideOf
+  first-arrives k h = ap₂ _||_ (first-by true k h) (first-by false k h) ∙ sym (below-max k (at true true) (at false true))
 
-  last-arrives : (k : ℕ) → k < length ys → arrives at-second (getD ys k 0) ≡ leb (length ys - max (at at-first at-second) (at at-second at-second)) k
-  last-arrives k h =
-      ap₂ _||_ (last-by at-first k h) (last-by at-second k h) ∙ sym (from-max (length ys) k (at at-first at-second) (at at-second at-second))
+  last-arrives : (k : ℕ) → k < length ys → arrives at-second (getD ys k 0) ≡ leb (length ys - max (at true false) (at false false)) k
+  unfolding sideOf
+  last-arrives k h = ap₂ _||_ (last-by true k h) (last-by false k h) ∙ sym (from-max (length ys) k (at true false) (at false false))
 
   -- the window's two cursors
-  below-limit : (y : ℕ) → ltb y (x - t) ≡ ltb (y + t) x
-  below-limit y = go (decLt (y + t) x)
-    where
-      go : Dec (y + t < x) → ltb y (x - t) ≡ ltb (y + t) x
-      go (yes h) = lt-ltb y (x - t) (omega arith) ∙ sym (lt-ltb (y + t) x h)
-      go (no h) = le-ltb y (x - t) (omega arith) ∙ sym (le-ltb (y + t) x (omega arith))
-
-  up-to-limit : (y : ℕ) → ltb y (x + t + 1) ≡ leb y (x + t)
-  up-to-limit y = go (decLe y (x + t))
-    where
-      go : Dec (y ≤ x + t) → ltb y (x + t + 1) ≡ leb y (x + t)
-      go (yes h) = lt-ltb y (x + t + 1) (omega arith) ∙ sym (le-leb y (x + t) h)
-      go (no h) = le-ltb y (x + t + 1) (omega arith) ∙ sym (lt-leb y (x + t) (omega arith))
-
-  window-from : (k : ℕ) → k < length ys → leb (x - t) (getD ys k 0) ≡ leb (below t ys x) k
-  unfolding below
+  window-from : (k : ℕ) → k < length ys → leb (x - t) (getD ys k 0) ≡ leb low k
+  unfolding standing belowCursor reach sideOf
   window-from k h =
-      not-below (x - t) (getD ys k 0)
-      ∙ ap not (below-limit (getD ys k 0) ∙ first-places (λ y. ltb (y + t) x) ys (λ i j l m e. lt-ltb (getD ys i 0 + t) x (omega (arith, ltb-true (getD ys j 0 + t) x e, o .in-order i j l m))) k h)
-      ∙ sym (not-below (countIf (λ y. ltb (y + t) x) ys) k)
+      ap (λ (n : ℕ). leb n (getD ys k 0)) {x = x - t} {y = (x + (0 + 1)) - (t + 1)} (omega arith)
+      ∙ not-below _ (getD ys k 0)
+      ∙ ap not (first-within (w .length2) _ ys o k h)
+      ∙ sym (not-below _ k)
 
-  window-to : (k : ℕ) → k < length ys → ltb (getD ys k 0) (x + t + 1) ≡ ltb k (upTo t ys x)
-  unfolding upTo
+  window-to : (k : ℕ) → k < length ys → ltb (getD ys k 0) (x + t + 1) ≡ ltb k high
+  unfolding standing upToCursor reach sideOf
   window-to k h =
-      up-to-limit (getD ys k 0)
-      ∙ first-places (λ y. leb y (x + t)) ys (λ i j l m e. le-leb (getD ys i 0) (x + t) (omega (arith, leb-true (getD ys j 0) (x + t) e, o .in-order i j l m))) k h
-
-  window-opens : below t ys x ≤ upTo t ys x
-  unfolding below upTo
-  window-opens = count-mono _ _ ys (λ y e. le-leb y (x + t) (omega (arith, ltb-true (y + t) x e)))
+      ap (ltb (getD ys k 0)) {x = x + t + 1} {y = (x + (t + 1)) - 0} (omega arith) ∙ first-within (w .length2) _ ys o k h
 
   -- on one edge the window stands between its two cursors, on two there is none
-  opens : (same : Bool) → cond same (below t ys x) 0 ≤ cond same (upTo t ys x) 0
-  opens true = window-opens
+  opens : (same : Bool) → cond same low 0 ≤ cond same high 0
+  unfolding standing belowCursor upToCursor reach sideOf
+  opens true = reached-more (w .length2) at-first ((x + (0 + 1)) - (t + 1)) ((x + (t + 1)) - 0) ys (omega arith)
   opens false = omega arith
 
-  around : (same : Bool) (k : ℕ) → k < length ys → (same && leb (difference x (getD ys k 0)) t) ≡ (leb (cond same (below t ys x) 0) k && ltb k (cond same (upTo t ys x) 0))
+  around : (same : Bool) (k : ℕ) → k < length ys → (same && leb (difference x (getD ys k 0)) t) ≡ (leb (cond same low 0) k && ltb k (cond same high 0))
   around false k h = no-place 0 k
   around true k h = in-window x (getD ys k 0) t ∙ ap₂ _&&_ (window-from k h) (window-to k h)
 
-  reached-joined : (same : Bool) → countIf (λ y. some-route t d p x q y || (same && leb (difference x y) t)) ys ≡ covered (length ys) (max (at at-first at-first) (at at-second at-first)) (max (at at-first at-second) (at at-second at-second)) (cond same (below t ys x) 0) (cond same (upTo t ys x) 0)
-  reached-joined same =
-      count-cong _ _ ys (λ y. sym (by-arrival (by at-first at-first y) (by at-first at-second y) (by at-second at-first y) (by at-second at-second y) (same && leb (difference x y) t)))
-      ∙ cover-list ys (arrives at-first) (arrives at-second) (λ y. same && leb (difference x y) t) (max (at at-first at-first) (at at-second at-first)) (max (at at-first at-second) (at at-second at-second)) (cond same (below t ys x) 0) (cond same (upTo t ys x) 0) (opens same) first-arrives last-arrives (around same)
-
--- what the six positions at an offset give
-joined-reached : (t : ℕ) (w : Edges) (ys : List ℕ) → Ordered ys → (x : ℕ) → joinedFrom t w ys x ≡ countIf (isReached t w x) ys
-unfolding joinedFrom joinedOf standsAt routeStand isReached reachedBy
-joined-reached t w ys o x = sym (reached-joined t (w .long1) x (w .long2) (distanceBetween w) ys o (w .same))
-
--- over all events of the first edge
-pub sum-reached : (t : ℕ) (w : Edges) (xs ys : List ℕ) → Ordered ys → sweptSum t w xs ys ≡ reachedPairs t w xs ys
-unfolding sweptSum reachedPairs
-sum-reached t w xs ys o = sum-below-cong (length xs) _ _ (λ i h. joined-reached t w ys o (getD xs i 0))
-
--- no more are reached than there are
-pub left-few : (n a b : ℕ) → n - a - b ≤ n
-left-few n a b = omega arith
+  pub reached-joined : countIf (isReached t w x) ys ≡ covered (length ys) (max (at true true) (at false true)) (max (at true false) (at false false)) (cond (w .same) low 0) (cond (w .same) high 0)
+  unfolding isReached
+  reached-joined =
+      count-cong _ _ ys (λ y. sym (by-arrival (reachedBy t w at-first at-first x y) (reachedBy t w at-first at-second x y) (reachedBy t w at-second at-first x y) (reachedBy t w at-second at-second x y) (w .same && leb (difference x y) t)))
+      ∙ cover-list ys (arrives at-first) (arrives at-second) (λ y. w .same && leb (difference x y) t) _ _ _ _ (opens (w .same)) first-arrives last-arrives (around (w .same))

@@ -12,7 +12,8 @@ use Rattle.model.proofs.Laws.Checks.{SetsAccepted, AreEvents, network-accepts, 
 use Rattle.model.proofs.Laws.CheckParts.{same-length-accepts}
 use Rattle.model.proofs.Laws.Counting.{count-map, count-rearranged}
 use Rattle.model.proofs.Laws.Refusal.{both-accept, both-accepted, unless-accepts, all-good}
-use Rattle.model.proofs.Laws.Sorted.{sorted-rearranged, sorted-in-order}
+use Rattle.model.proofs.Laws.Sorted.{sorted-rearranged, sorted-in-order, in-order-at}
+use Rattle.model.proofs.Laws.Stretch.{having-length}
 use Rattle.model.specs.Checks.{networkCheck, networkLists, networkValues, eventLists, orderCheck, roomCheck, loneEdgeCheck}
 use Rattle.model.specs.Counting.{countIf, one-if}
 use Rattle.model.specs.Events.{Event, event, events, having, before, sorted, InOrder, IsEvent, setSize, greatestSet}
@@ -22,8 +23,7 @@ use Rattle.model.specs.PairCount.{eventAt}
 use Rattle.model.specs.Refusal.{orElse}
 use Rattle.model.specs.declared.check.Check.the-variants.{Accepted}
 use Rattle.sweep.specs.Answers.{cursorsCheck}
-use Rattle.prepare.proofs.Laws.Groups.{having-events, having-length}
-use Rattle.prepare.proofs.Laws.InRuns.{in-order-at}
+use Rattle.prepare.proofs.Laws.Groups.{having-events}
 use Rattle.prepare.proofs.Laws.LaidEvents.{laid-is-event}
 use Rattle.prepare.specs.Prepared.{Prepared, laidOutSet}
 use Rattle.pair_counts.proofs.Laws.AskedSet.{set-bounds, edges-part, offsets-part, set-same-length}

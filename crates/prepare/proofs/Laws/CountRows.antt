@@ -12,17 +12,8 @@ use Rattle.model.proofs.Laws.Lists.{map-at}
 use Rattle.model.specs.Envelope.{countOfSet}
 use Rattle.model.specs.Events.{Event, setCount}
 use Rattle.model.specs.Network.{Network}
+use Rattle.prepare.specs.Rows.{rowsFrom, RowsWritten}
 use Rattle.prepare.specs.Counts.{countRow, countRows, countTable}
-
--- n rows from number s on
-unfoldable pub rowsFrom : (ℕ → List ℕ) → ℕ → ℕ → List ℕ
-rowsFrom row s zero = []
-rowsFrom row s (suc n) = row s ++ rowsFrom row (suc s) n
-
--- the first s rows, of so many entries each, are written, and what stands from place start on is as it was
-pub record RowsWritten (row : ℕ → List ℕ) (wide : ℕ) (old : List ℕ) (s start : ℕ) (answers : List ℕ) : Type 0 where
-  pub place : start ≡ s * wide
-  pub so-far : answers ≡ rowsFrom row 0 s ++ drop start old
 
 module _ (row : ℕ → List ℕ) (wide : ℕ) (row-length : (s : ℕ) → length (row s) ≡ wide) where
   -- the last row stands behind the others

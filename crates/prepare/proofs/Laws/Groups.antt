@@ -13,6 +13,7 @@ use lib.Seq.{take-all, take-append-le, drop-append-le, drop-at}
 use borrow.Author.Tests.{eq-eqb, ne-eqb}
 use Rattle.model.proofs.Laws.Counting.{sum-below-add, sum-below-zero}
 use Rattle.model.proofs.Laws.Sorted.{sorted-length}
+use Rattle.model.proofs.Laws.Stretch.{having-length}
 use Rattle.model.specs.Counting.{sumBelow, one-if, countIf}
 use Rattle.model.specs.Events.{Event, event, events, having, setSize, greatestSet, setCount}
 use Rattle.prepare.specs.Prepared.{laidOutSet, groupedFrom, grouped, startOf}
@@ -37,17 +38,6 @@ having-events s (t ∷ sets) (a ∷ es) (x ∷ xs) e = go (eqb t s) (having-even
         ≡ events (cond b (a ∷ having s sets es) (having s sets es)) (cond b (x ∷ having s sets xs) (having s sets xs))
     go true rest = ap (λ (l : List Event). event a x ∷ l) rest
     go false rest = rest
-
--- as much stands beside a set's number as the set has events
-pub having-length : {A : Type 0} (s : ℕ) (sets : List ℕ) (xs : List A) → length sets ≡ length xs → length (having s sets xs) ≡ setSize sets s
-unfolding having setSize countIf one-if
-having-length s [] xs e = refl
-having-length s (t ∷ sets) [] e = absurd (omega arith)
-having-length s (t ∷ sets) (x ∷ xs) e = go (eqb t s) (having-length s sets xs (omega arith))
-  where
-    go : (b : Bool) → length (having s sets xs) ≡ setSize sets s → length (cond b (x ∷ having s sets xs) (having s sets xs)) ≡ one-if b + setSize sets s
-    go true rest = omega arith
-    go false rest = omega arith
 
 -- one of the numbers below n is t
 one-below : (n t : ℕ) → t < n → sumBelow n (λ s. one-if (eqb t s)) ≡ 1

@@ -1,55 +1,21 @@
 -- Runs: each lies in one set, and in it offsets rise.
-use mathlib.Core.Bool.{Bool, true, false, _&&_, _||_, false≢true}
-use mathlib.Core.List.{List, [], _∷_}
+use mathlib.Core.Bool.{false}
+use mathlib.Core.List.{List}
 use mathlib.Core.Logic.{⊎-elim}
-use mathlib.Core.Path.{_≡_, refl, sym, ap₂, _∙_}
+use mathlib.Core.Path.{_≡_, sym, ap₂, _∙_}
 use Prim.Native.Nat.{ℕ, zero, suc, _+_, _-_, _≤_, _<_}
 use native.Mathlib.Decide.{decLe}
 use native.Mathlib.Nat.{eq-or-lt-of-le, lt-of-not-le}
 use native.Mathlib.Omega.{arith}
-use lib.Dec.{eqb, ltb}
 use lib.ListN.{length, getD}
-use borrow.Author.Tests.{eq-eqb, ltb-false}
 use Rattle.model.proofs.Laws.Checks.{SetsAccepted}
-use Rattle.model.proofs.Laws.Sorted.{sorted-in-order, before-through}
-use Rattle.model.specs.Events.{Event, event, events, having, before, InOrder, one, more, setSize, setCount}
+use Rattle.model.proofs.Laws.Sorted.{sorted-in-order, in-order-at, same-edge}
+use Rattle.model.specs.Events.{event, events, having, before, setSize, setCount}
 use Rattle.model.specs.Network.{Network}
 use Rattle.model.specs.PairCount.{eventAt}
 use Rattle.prepare.specs.Prepared.{laidOutSet, startOf, Prepared}
 use Rattle.prepare.proofs.Laws.Groups.{start-next, events-total, laid-out-length}
 use Rattle.prepare.proofs.Laws.LaidEvents.{events-long, set-event}
-
--- not before one that is not before a third: not before the third
-not-before : (e f g : Event) → before f e ≡ false → before g f ≡ false → before g e ≡ false
-not-before e f g p q = go (before g e) refl
-  where
-    go : (b : Bool) → before g e ≡ b → before g e ≡ false
-    go true t = absurd (false≢true (sym p ∙ before-through e f g q t))
-    go false t = t
-
--- of a list in order, no element comes before the first
-first-in-order : (e : Event) (es : List Event) → InOrder (e ∷ es) → (j : ℕ) → j < length es → before (eventAt es j) e ≡ false
-first-in-order e [] o j h = absurd (omega arith)
-first-in-order e (f ∷ es) (more s o) zero h = s
-first-in-order e (f ∷ es) (more s o) (suc j) h = not-before e f (eventAt es j) s (first-in-order f es o j (omega arith))
-
--- nor before any that stands in front of it
-pub in-order-at : (es : List Event) → InOrder es → (i j : ℕ) → i < j → j < length es → before (eventAt es j) (eventAt es i) ≡ false
-in-order-at [] o i j l h = absurd (omega arith)
-in-order-at (e ∷ es) o zero zero l h = absurd (omega arith)
-in-order-at (e ∷ es) o zero (suc j) l h = first-in-order e es o j (omega arith)
-in-order-at (e ∷ es) o (suc i) zero l h = absurd (omega arith)
-in-order-at (e ∷ []) o (suc i) (suc j) l h = absurd (omega arith)
-in-order-at (e ∷ f ∷ es) (more s o) (suc i) (suc j) l h = in-order-at (f ∷ es) o i j (omega arith) (omega arith)
-
--- on one edge, that is a matter of offsets
-pub same-edge : (e f : Event) → e .edge ≡ f .edge → before f e ≡ false → e .offset ≤ f .offset
-unfolding before
-same-edge e f p b = go (ltb (f .edge) (e .edge)) b
-  where
-    go : (c : Bool) → (c || (eqb (f .edge) (e .edge) && ltb (f .offset) (e .offset))) ≡ false → e .offset ≤ f .offset
-    go true q = absurd (false≢true (sym q))
-    go false q = ltb-false (f .offset) (e .offset) (simp (eq-eqb (f .edge) (e .edge) (sym p)) at q)
 
 -- run r is one of set s
 pub record InSet (sets setRuns : List ℕ) (s r : ℕ) : Type 0 where

@@ -1,13 +1,13 @@
 -- From the parts to the whole: what laying out, cutting and searching leave is what the methods start from.
 use mathlib.Core.List.{List, [], _∷_}
 use mathlib.Core.Path.{_≡_, _∙_}
-use Prim.Native.Nat.{ℕ, suc, _≤_, _<_}
+use Prim.Native.Nat.{ℕ, suc, _+_, _*_, _≤_, _<_}
 use native.Mathlib.Omega.{arith}
 use native.Mathlib.Nat.{mul-le-mul}
 use lib.ListN.{length, getD}
 use Rattle.model.proofs.Laws.Checks.{SetsAccepted, network-accepts}
 use Rattle.model.specs.Events.{greatestSet, setCount}
-use Rattle.model.specs.Limits.{maxSet}
+use Rattle.model.specs.Limits.{maxNodes, maxEvents, maxSet}
 use Rattle.model.specs.Network.{Network}
 use Rattle.prepare.specs.Cutting.{Startable, SetsCut}
 use Rattle.prepare.specs.Laying.{SetsFit, SetsLaid, Layable, RunsLaid}
@@ -24,7 +24,7 @@ greatest-within m (t ∷ sets) h = omega (arith, h 0 (omega arith), greatest-wit
 
 -- what the checks leave is what laying out and the table ask
 module _ (net : Network) (sets es xs : List ℕ) (accepted : SetsAccepted net sets es xs) where
-  pub layable : (edges offsets bounds setRuns : List ℕ) → length edges ≡ 8192 → length offsets ≡ 8192 → length bounds ≡ 8193 → length setRuns ≡ 33
+  pub layable : (edges offsets bounds setRuns : List ℕ) → length edges ≡ maxEvents → length offsets ≡ maxEvents → length bounds ≡ suc maxEvents → length setRuns ≡ maxSet + 2
       → Layable sets es xs edges offsets bounds setRuns
   layable edges offsets bounds setRuns he ho hb hr =
       record {
@@ -38,7 +38,7 @@ module _ (net : Network) (sets es xs : List ℕ) (accepted : SetsAccepted net se
         runs-room = omega arith;
       }
 
-  pub endable : (table : List ℕ) → length table ≡ 262144 → Endable net es table
+  pub endable : (table : List ℕ) → length table ≡ maxNodes * maxNodes → Endable net es table
   endable table h =
       let network = accepted .is-network in
       record {
@@ -52,7 +52,7 @@ module _ (sets es xs edges offsets bounds setRuns : List ℕ) (asked : Layable s
   all-events : startOf sets (setCount sets) ≡ length es
   all-events = events-total sets es (asked .sets-length)
 
-  pub sets-fit : (starts : List ℕ) → length starts ≡ 33 → SetsFit sets es xs (setCount sets) edges offsets starts
+  pub sets-fit : (starts : List ℕ) → length starts ≡ maxSet + 2 → SetsFit sets es xs (setCount sets) edges offsets starts
   unfolding setCount
   sets-fit starts h =
       let total = all-events in
@@ -70,7 +70,7 @@ module _ (sets es xs edges offsets bounds setRuns : List ℕ) (asked : Layable s
     start-at : (s : ℕ) → s ≤ setCount sets → getD starts s 0 ≡ startOf sets s
     start-at = laid .starts-are
 
-    pub startable : length edges′ ≡ length edges → length starts ≡ 33 → Startable starts edges′ bounds setRuns (setCount sets)
+    pub startable : length edges′ ≡ length edges → length starts ≡ maxSet + 2 → Startable starts edges′ bounds setRuns (setCount sets)
     unfolding setCount
     startable long h =
         let total = all-events in

@@ -11,15 +11,15 @@ use Rattle.model.proofs.Laws.Counting.{sum-below-cong}
 use Rattle.model.specs.Counting.{sumBelow}
 use Rattle.model.specs.Envelope.{countOfSet}
 use Rattle.model.specs.Events.{event, events, setSize, setCount}
-use Rattle.model.specs.Limits.{maxEvents, maxPairs}
+use Rattle.model.specs.Limits.{maxNodes, maxEvents, maxPairs}
 use Rattle.model.specs.Network.{Network, EndsAreNodes}
 use Rattle.prepare.specs.Counts.{countRow}
 use Rattle.prepare.specs.EndTable.{EndTable}
 use Rattle.prepare.specs.Prepared.{Prepared, laidOutSet, startOf, greatest}
-use Rattle.prepare.specs.RunPairs.{edgeOf, partOf, runPairs, earlierPairs, allPairs, otherPairs, otherRow, SumFits, RunsReady, RowReady}
+use Rattle.prepare.specs.RunPairs.{edgeOf, partOf, runPairs, pairsWith, allPairs, otherPairs, otherRow, SumFits, RunsReady}
 use Rattle.prepare.proofs.Laws.Entries.{ends-entry}
 use Rattle.prepare.proofs.Laws.Groups.{events-total, laid-out-length, start-next, starts-rise}
-use Rattle.prepare.proofs.Laws.InRuns.{runCount, set-runs-rise, bounds-rise, offsets-rise}
+use Rattle.prepare.proofs.Laws.InRuns.{runCount, bounds-rise, offsets-rise}
 use Rattle.prepare.proofs.Laws.LaidEvents.{set-count, events-long, laid-is-event}
 use Rattle.prepare.proofs.Laws.RunEvents.{set-pairs}
 use Rattle.prepare.proofs.Laws.RunSums.{close-offsets, close-either, pairs-most, sum-halves}
@@ -29,7 +29,7 @@ pub record Stored (edges offsets bounds table : List ℕ) : Type 0 where
   pub edges-length : length edges ≡ maxEvents
   pub offsets-length : length offsets ≡ maxEvents
   pub bounds-length : length bounds ≡ suc maxEvents
-  pub table-length : length table ≡ 262144
+  pub table-length : length table ≡ maxNodes * maxNodes
 
 -- an accepted network is within its limits, and such a table has room for its nodes
 pub stored-table : {net : Network} {sets es xs edges offsets bounds table : List ℕ} → SetsAccepted net sets es xs → Stored edges offsets bounds table → EndTable net table
@@ -68,6 +68,29 @@ module _ {net : Network} {sets es xs ts edges offsets bounds setRuns table : Lis
   abbrev from-run : ℕ → ℕ
   from-run s = getD setRuns s 0
 
+  -- what is read for all runs
+  pub all-ready : Stored edges offsets bounds table → RunsReady net table edges offsets bounds ts (runCount accepted p)
+  unfolding edgeOf
+  all-ready stored =
+      let few : length es ≤ maxEvents = accepted .are-events .few in
+      let end : getD bounds (runCount accepted p) 0 ≡ length es = p .runs .set-begins (setCount sets) (omega arith) ∙ events-total sets es (accepted .sets-length) in
+      record {
+        table-is = stored-table accepted stored;
+        in-bounds = omega (arith, stored .bounds-length, p .runs .few);
+        few-runs = omega (arith, p .runs .few);
+        few = omega arith;
+        in-edges = omega (arith, stored .edges-length);
+        in-offsets = omega (arith, stored .offsets-length);
+        begins = p .runs .rising;
+        ends-in = λ k l. bounds-rise accepted p (suc k) (runCount accepted p) l (omega arith);
+        is-event = λ k l. laid-is-event accepted p k (omega arith);
+        one-edge = p .runs .one-edge;
+        rising = offsets-rise accepted p;
+        bound = greatest ts;
+        within-bound = at-most-greatest ts up;
+        codes = λ k j a b s₁ s₂. ends-entry accepted p s₁ s₂ k j (omega arith) (omega arith);
+      }
+
   -- the events of set s
   module _ (s : ℕ) (is-set : s < setCount sets) where
     begins-at : getD bounds (from-run s) 0 ≡ startOf sets s
@@ -79,44 +102,9 @@ module _ {net : Network} {sets es xs ts edges offsets bounds setRuns table : Lis
     inside : startOf sets (suc s) ≤ length es
     inside = omega (arith, starts-rise sets (suc s) (setCount sets) is-set, events-total sets es (accepted .sets-length))
 
-    last-run : from-run (suc s) ≤ runCount accepted p
-    last-run = set-runs-rise accepted p (suc s) (setCount sets) is-set (omega arith)
-
-    -- what is read for the runs of the set
-    pub runs-ready : Stored edges offsets bounds table → (i : ℕ) → i < length ts → RunsReady net table edges offsets bounds (from-run s) (from-run (suc s)) (getD ts i 0)
-    unfolding edgeOf
-    runs-ready stored i h =
-        let net-is = accepted .is-network in
-        let few : length es ≤ maxEvents = accepted .are-events .few in
-        let end = ends-at in
-        let in-list = inside in
-        let last = last-run in
-        record {
-          firsts-length = net-is .firsts-length;
-          seconds-length = net-is .seconds-length;
-          nodes-to = net-is .nodes-to;
-          ends = net-is .ends;
-          length-to = net-is .length-to;
-          table-room = stored-table accepted stored .room;
-          in-order = p .runs .in-order s is-set;
-          in-bounds = omega (arith, stored .bounds-length, p .runs .few);
-          few-runs = omega (arith, p .runs .few);
-          few = omega arith;
-          in-edges = omega (arith, stored .edges-length);
-          in-offsets = omega (arith, stored .offsets-length);
-          begins = λ k f l. p .runs .rising k (omega arith);
-          ends-in = λ k f l. bounds-rise accepted p (suc k) (from-run (suc s)) l last;
-          is-event = λ k l. laid-is-event accepted p k (omega arith);
-          one-edge = λ k j f l. p .runs .one-edge k j (omega arith);
-          rising = λ k j m f l. offsets-rise accepted p k j m (omega arith);
-          bound = greatest ts;
-          within-bound = at-most-greatest ts up i h;
-          codes = λ k j a b s₁ s₂. ends-entry accepted p s₁ s₂ k j (omega arith) (omega arith);
-        }
-
     -- the set's count, with each event beside itself
     set-total : (t : ℕ) → countOfSet net sets (events es xs) t s + setSize sets s ≡ allPairs net edges offsets bounds t (from-run s) (from-run (suc s) - from-run s)
-    unfolding allPairs earlierPairs runPairs partOf edgeOf
+    unfolding allPairs pairsWith runPairs partOf edgeOf
     set-total t =
         set-pairs accepted p s t is-set
         ∙ sum-halves (λ a b. runPairs net edges offsets bounds t (from-run s + a) (from-run s + b)) (from-run (suc s) - from-run s)
@@ -137,13 +125,10 @@ module _ {net : Network} {sets es xs ts edges offsets bounds setRuns table : Lis
     sum-fits t =
         let total = set-total t in
         record {
-          begins = omega (arith, begins-at, ends-at, start-next sets s);
           themselves = omega (arith, begins-at, ends-at, start-next sets s);
           small = rw (other-pairs t) (omega (arith, count-small t));
+          few = omega (arith, ends-at, inside, accepted .are-events .few);
         }
-
-    pub row-ready : Stored edges offsets bounds table → RowReady net table edges offsets bounds ts (from-run s) (from-run (suc s))
-    row-ready stored = record { ready-at = runs-ready stored; fits-at = λ k h. sum-fits (getD ts k 0) }
 
     -- the set's row
     pub row-is : otherRow net edges offsets bounds ts (from-run s) (from-run (suc s)) ≡ countRow net sets (events es xs) ts s

@@ -4,8 +4,8 @@ use Prim.Native.Nat.{ℕ, suc, _+_, _*_, _/_, _≤_, _<_, min}
 use native.Mathlib.Decide.{decLt}
 use native.Mathlib.Nat.{suc-mul, div-mul-le-self, lt-div-mul-add, mul-le-mul-right, div-le-of-le-mul}
 use native.Mathlib.Omega.{arith}
-use Rattle.range_query.specs.Ladder.{CellEnd}
-use Rattle.range_query.specs.Tally.{capOf, cellOf}
+use Rattle.range_query.specs.Ladder.{lastCell, capOf, cellOf}
+use Rattle.range_query.specs.Spreading.{CellEnd}
 
 -- fewer metres lie in no later cell
 div-grows : (m n width : ℕ) → 1 ≤ width → m ≤ n → m / width ≤ n / width
@@ -18,7 +18,7 @@ div-grows m n width some h = go (decLt (n / width) (m / width))
 
 module _ (greatest width : ℕ) (some : 1 ≤ width) where
   -- the last cell is in the list
-  pub last-cell : capOf greatest width / width ≤ 8191
+  pub last-cell : capOf greatest width / width ≤ lastCell
   unfolding capOf
   last-cell = div-le-of-le-mul width (omega arith)
 

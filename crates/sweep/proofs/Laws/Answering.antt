@@ -22,9 +22,9 @@ use Rattle.sweep.proofs.Laws.AnsweringCheck.{CursorsAccepted}
 use Rattle.sweep.proofs.Laws.OnEdges.{laid-on-edge}
 use Rattle.sweep.specs.Answers.{cursorsCheck, cursorPositions, cursorMoves, routePositions, routeMoves, CursorsAnswered}
 use Rattle.sweep.specs.Asked.{TwoEdges, EdgesFound, CursorsWritten}
-use Rattle.sweep.specs.Ends.{distanceBetween}
+use Rattle.edge_pair.specs.Edges.{distanceBetween}
 use Rattle.sweep.specs.Six.{routeMarks, routeSum, windowMarks, windowSum, sixMarks, sixSums, EdgesSweepable, EdgesSwept}
-use Rattle.sweep.specs.declared.sweeping.Edges.{Edges}
+use Rattle.edge_pair.specs.declared.edges.EdgePair.{EdgePair}
 
 -- indices are the same where the numbers are
 same-number : (e f : ℕ) → 1 ≤ e → 1 ≤ f → eqb (pred e) (pred f) ≡ eqb e f
@@ -57,13 +57,13 @@ module _ {net : Network} {es xs : List ℕ} {e f : ℕ} {ps ms : List ℕ} (ok :
         second-to = second-is .is-edge .to;
       }
 
-  module _ {bound : ℕ} {w : Edges} (found : EdgesFound net bound (pred e) (pred f) w) where
+  module _ {bound : ℕ} {w : EdgePair} (found : EdgesFound net bound (pred e) (pred f) w) where
     pub sweepable : {xs₁ xs₂ : List ℕ} → xs₁ ≡ having e es xs → xs₂ ≡ having f es xs → EdgesSweepable w xs₁ xs₂ ps ms
     sweepable p q =
         rw (p, q)
         (record {
-          first-laid = rw (found .long1-is) (laid-on-edge net es xs e e first-is);
-          second-laid = rw (found .long2-is) (laid-on-edge net es xs f f second-is);
+          first-laid = rw (found .length1-is) (laid-on-edge net es xs e e first-is);
+          second-laid = rw (found .length2-is) (laid-on-edge net es xs f f second-is);
           room = ok .room;
           sums-room = ok .sums-room;
         })
@@ -75,13 +75,13 @@ module _ {net : Network} {es xs : List ℕ} {e f : ℕ} {ps ms : List ℕ} (ok :
     same-is : w .same ≡ eqb e f
     same-is = found .same-is ∙ same-number e f (first-is .is-edge .from) (second-is .is-edge .from)
 
-    marks-are : (t : ℕ) → sixMarks t (w .long1) (w .long2) (distanceBetween w) (w .same) (having e es xs) (having f es xs) ≡ cursorPositions net es xs e f t bound
+    marks-are : (t : ℕ) → sixMarks t (w .length1) (w .length2) (distanceBetween w) (w .same) (having e es xs) (having f es xs) ≡ cursorPositions net es xs e f t bound
     unfolding sixMarks routeMarks windowMarks cursorPositions routePositions
-    marks-are t = simp (found .long1-is, found .long2-is, same-is, between-is at-first at-first, between-is at-first at-second, between-is at-second at-first, between-is at-second at-second)
+    marks-are t = simp (found .length1-is, found .length2-is, same-is, between-is at-first at-first, between-is at-first at-second, between-is at-second at-first, between-is at-second at-second)
 
-    sums-are : (t : ℕ) → sixSums t (w .long1) (w .long2) (distanceBetween w) (w .same) (having e es xs) (having f es xs) ≡ cursorMoves net es xs e f t bound
+    sums-are : (t : ℕ) → sixSums t (w .length1) (w .length2) (distanceBetween w) (w .same) (having e es xs) (having f es xs) ≡ cursorMoves net es xs e f t bound
     unfolding sixSums routeSum windowSum cursorMoves routeMoves routePositions
-    sums-are t = simp (found .long1-is, found .long2-is, same-is, between-is at-first at-first, between-is at-first at-second, between-is at-second at-first, between-is at-second at-second)
+    sums-are t = simp (found .length1-is, found .length2-is, same-is, between-is at-first at-first, between-is at-first at-second, between-is at-second at-first, between-is at-second at-second)
 
     pub all-written : {t : ℕ} {xs₁ xs₂ ps′ ms′ : List ℕ} → xs₁ ≡ having e es xs → xs₂ ≡ having f es xs → EdgesSwept t w xs₁ xs₂ ps ms ps′ ms′ → CursorsWritten net es xs e f t bound ps ms ps′ ms′
     all-written {t} p q swept =

@@ -9,6 +9,7 @@ use lib.Dec.{eqb, leb}
 use lib.ListN.{length}
 use Rattle.model.proofs.Laws.CheckParts.{lists-first}
 use Rattle.model.proofs.Laws.Refusal.{stops-here, goes-on, or-else-next, or-else-accepted, both-accepted, both-accept, both-true, unless-accepted, unless-accepts}
+use Rattle.model.proofs.Laws.Stretch.{having-length}
 use Rattle.model.specs.Checks.{sameLength, roomCheck, loneEdgeCheck, loneOffsetCheck, networkLists, eventLists, networkValues, networkCheck, locationsOverNetworkCheck, eventValues, orderCheck, laidOutCheck}
 use Rattle.model.specs.Events.{having, setSize}
 use Rattle.model.specs.Network.{Network, size}
@@ -17,8 +18,6 @@ use Rattle.model.specs.declared.check.Check.{Check}
 use Rattle.model.specs.declared.check.Check.the-variants.{Accepted, Refused}
 use Rattle.sweep.specs.Answers.{cursorsCheck}
 use Rattle.sweep.specs.Asked.{hasRooms}
-use Rattle.prepare.proofs.Laws.Groups.{having-length}
-use Rattle.prepare.proofs.Laws.Verdict.{quotient-test}
 
 -- one of three tests that refuse alike fails
 one-of-three : (a b c : Bool) (rest : Check) → a && (b && c) ≡ false → orElse (unless a listsDiffer 0) (orElse (unless b listsDiffer 0) (orElse (unless c listsDiffer 0) rest)) ≡ Refused listsDiffer 0
@@ -49,16 +48,16 @@ module _ (es xs : List ℕ) (e : ℕ) (ps ms : List ℕ) where
   lists-differ h = sym (rw (ne-eqb _ _ h))
 
   module _ (n : ℕ) (same : length es ≡ length xs) (n-is : n ≡ setSize es e) where
-    room-test : leb n (length ps / 6) ≡ leb (6 * length (having e es xs)) (length ps)
-    room-test = quotient-test 6 n (length ps) (omega arith) ∙ ap (λ (m : ℕ). leb (6 * m) (length ps)) (n-is ∙ sym (having-length e es xs same))
+    found : length (having e es xs) ≡ n
+    found = having-length e es xs same ∙ sym n-is
 
     pub room-short : length ps / 6 < n → false ≡ hasRooms es xs e ps ms
     unfolding hasRooms
-    room-short h = sym (rw (eq-eqb _ _ same, ← room-test, lt-leb n (length ps / 6) h))
+    room-short h = sym (rw (eq-eqb _ _ same, lt-leb (6 * length (having e es xs)) (length ps) (omega (arith, found))))
 
     pub room-enough : n ≤ length ps / 6 → leb 6 (length ms) ≡ hasRooms es xs e ps ms
     unfolding hasRooms
-    room-enough h = sym (rw (eq-eqb _ _ same, ← room-test, le-leb n (length ps / 6) h))
+    room-enough h = sym (rw (eq-eqb _ _ same, le-leb (6 * length (having e es xs)) (length ps) (omega (arith, found))))
 
 module _ (net : Network) (es xs : List ℕ) (e f : ℕ) (ps ms : List ℕ) where
   -- too little room, or lists that differ, whatever the network

@@ -1,26 +1,28 @@
 -- The cursors of the six kinds stand where their definitions say.
 use mathlib.Core.Bool.{Bool, true, false}
-use mathlib.Core.List.{List, [], _∷_, _++_, map, append-nil}
+use mathlib.Core.List.{List, [], _∷_, map}
 use mathlib.Core.Path.{_≡_, _∙_, refl, sym, ap, ap₂}
 use Prim.Native.Nat.{ℕ, zero, suc, _+_, _-_, _≤_, _<_}
 use native.Mathlib.Decide.{decLe, decLt}
 use native.Mathlib.Omega.{arith}
 use borrow.Author.Tests.{le-leb, lt-leb, lt-ltb, le-ltb}
-use borrow.Author.Fill.{fill-more}
 use lib.Dec.{leb, ltb}
-use lib.ListN.{length, getD, set, drop, replicate, length-append, length-replicate, drop-of-length-le}
-use Rattle.model.specs.Distance.{metres, plus, within, decode}
+use lib.ListN.{length, getD}
+use Rattle.model.specs.Distance.{decode}
 use Rattle.model.specs.Location.{gap, reaches}
 use Rattle.model.proofs.Laws.Counting.{count-cong}
 use Rattle.sweep.specs.Cursors.{position, below, upTo}
-use Rattle.sweep.specs.Moving.{sideOf, reach, routeCursor, routeOrNone, belowCursor, upToCursor}
+use Rattle.sweep.specs.Moving.{reach, routeCursor, belowCursor, upToCursor}
+use Rattle.edge_pair.specs.Edges.{sideOf}
+use Rattle.edge_pair.specs.Ways.{way}
+use Rattle.edge_pair.proofs.Laws.Arrival.{by-way}
 use Rattle.sweep.specs.Sweeping.{reached, standing}
 
 -- what is left of the threshold for the second edge
-route-reach : (t p n x : ℕ) (falling first : Bool) → x ≤ p → reach (routeCursor t p falling (suc n) first) x ≡ suc t - (gap p (sideOf falling) x + n)
+route-reach : (t p code x : ℕ) (falling first : Bool) → x ≤ p → reach (routeCursor t p falling code first) x ≡ suc t - (gap p (sideOf falling) x + way code)
 unfolding reach routeCursor sideOf gap
-route-reach t p n x true first h = omega arith
-route-reach t p n x false first h = omega arith
+route-reach t p code x true first h = omega arith
+route-reach t p code x false first h = omega arith
 
 -- a gap below what is left is one that adds up to no more than the threshold
 left-of : (t m b : ℕ) → ltb b (suc t - m) ≡ leb (m + b) t
@@ -30,37 +32,17 @@ left-of t m b = go (decLe (m + b) t)
     go (yes h) = lt-ltb b (suc t - m) (omega arith) ∙ sym (le-leb (m + b) t h)
     go (no h) = le-ltb b (suc t - m) (omega arith) ∙ sym (lt-leb (m + b) t (omega arith))
 
-pub route-standing : (t p q n : ℕ) (falling first : Bool) (ys : List ℕ) (x : ℕ) → x ≤ p → standing (routeCursor t p falling (suc n) first) q ys x ≡ position t p (sideOf falling) (metres n) q (sideOf first) ys x
-unfolding standing reached routeCursor position reaches plus within
-route-standing t p q n falling first ys x h =
-    count-cong _ _ ys (λ y. ap (ltb (gap q (sideOf first) y)) (route-reach t p n x falling first h) ∙ left-of t (gap p (sideOf falling) x + n) (gap q (sideOf first) y))
+-- the cursor of a route reaches what the route does
+pub route-reaches : (t p code x : ℕ) (falling first : Bool) (b : ℕ) → t < 4294967296 → x ≤ p → ltb b (reach (routeCursor t p falling code first) x) ≡ reaches t (gap p (sideOf falling) x) (decode code) b
+route-reaches t p code x falling first b low h =
+    ap (ltb b) (route-reach t p code x falling first h)
+    ∙ left-of t (gap p (sideOf falling) x + way code) b
+    ∙ sym (by-way t (gap p (sideOf falling) x) code b low)
 
--- where there is no route, nothing
-none-reach : (t p x : ℕ) (falling first : Bool) → x ≤ p → reach (record { falling = falling; plus = t; minus = p + (t + 1); first = first }) x ≡ 0
-unfolding reach
-none-reach t p x true first h = omega arith
-none-reach t p x false first h = omega arith
-
-pub route-or-none-standing : (t p q code : ℕ) (falling first : Bool) (ys : List ℕ) (x : ℕ) → x ≤ p → standing (routeOrNone t p falling code first) q ys x ≡ position t p (sideOf falling) (decode code) q (sideOf first) ys x
-unfolding standing reached routeOrNone decode position reaches plus within
-route-or-none-standing t p q zero falling first ys x h =
-    count-cong _ _ ys (λ y. ap (ltb (gap q (sideOf first) y)) (none-reach t p x falling first h) ∙ le-ltb (gap q (sideOf first) y) 0 (omega arith))
-route-or-none-standing t p q (suc n) falling first ys x h = route-standing t p q n falling first ys x h
-
-pub route-or-none-falling : (t p : ℕ) (falling : Bool) (code : ℕ) (first : Bool) → routeOrNone t p falling code first .falling ≡ falling
-unfolding routeOrNone routeCursor
-route-or-none-falling t p falling zero first = refl
-route-or-none-falling t p falling (suc n) first = refl
-
--- which of the two is made
-pub none-made : (t p : ℕ) (falling : Bool) (code : ℕ) (first : Bool) → code ≡ 0 → record { falling = falling; plus = t; minus = p + (t + 1); first = first } ≡ routeOrNone t p falling code first
-unfolding routeOrNone
-none-made t p falling code first e = rw e refl
-
-pub some-made : (t p : ℕ) (falling : Bool) (code : ℕ) (first : Bool) → 1 ≤ code → routeCursor t p falling code first ≡ routeOrNone t p falling code first
-unfolding routeOrNone
-some-made t p falling zero first h = absurd (omega arith)
-some-made t p falling (suc n) first h = refl
+pub route-standing : (t p q code : ℕ) (falling first : Bool) (ys : List ℕ) (x : ℕ) → t < 4294967296 → x ≤ p → standing (routeCursor t p falling code first) q ys x ≡ position t p (sideOf falling) (decode code) q (sideOf first) ys x
+unfolding standing reached routeCursor position
+route-standing t p q code falling first ys x low h =
+    count-cong _ _ ys (λ y. route-reaches t p code x falling first (gap q (sideOf first) y) low h)
 
 pub below-standing : (t q : ℕ) (ys : List ℕ) (x : ℕ) → standing (belowCursor t) q ys x ≡ below t ys x
 unfolding standing reached belowCursor reach sideOf gap below

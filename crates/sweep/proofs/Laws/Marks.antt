@@ -11,12 +11,13 @@ use Rattle.model.specs.Distance.{Distance, metres, none, decode}
 use Rattle.sweep.proofs.Laws.Kinds.{map-agree, route-standing}
 use Rattle.sweep.specs.Answers.{marked, markedIf}
 use Rattle.sweep.specs.Cursors.{position, positions, rest, moves}
-use Rattle.sweep.specs.Ends.{codeBetween, distanceBetween}
-use Rattle.sweep.specs.Six.{routeMarks, routeSum, placed, Laid, PartSwept, RouteSwept}
-use Rattle.sweep.specs.Moving.{sideOf, routeCursor}
+use Rattle.edge_pair.specs.Edges.{sideOf, codeBetween, distanceBetween}
+use Rattle.sweep.specs.Six.{routeMarks, routeSum, placed, PartSwept, RouteSwept}
+use Rattle.edge_pair.specs.Offsets.{Laid}
+use Rattle.sweep.specs.Moving.{routeCursor}
 use Rattle.sweep.specs.Sweeping.{standing, resting, Swept}
 use Rattle.sweep.specs.declared.cursor.Cursor.{Cursor}
-use Rattle.sweep.specs.declared.sweeping.Edges.{Edges}
+use Rattle.edge_pair.specs.declared.edges.EdgePair.{EdgePair}
 
 -- a part that was lent and comes back
 put-back : (from : ℕ) (l out : List ℕ) (n : ℕ) → length out ≡ n → take from l ++ (out ++ drop ((from + n) - from) (drop from l)) ≡ placed from out l
@@ -49,33 +50,33 @@ part-swept true c q xs ys from l r out l′ e done put =
     }
 
 -- a route's cursor, by its code
-pub route-part : (t : ℕ) (w : Edges) (first1 first2 : Bool) (xs ys : List ℕ) (from code : ℕ) (c : Cursor) (l : List ℕ) (r : ℕ) (l′ : List ℕ) → code ≡ codeBetween w (sideOf first1) (sideOf first2) → c ≡ routeCursor t (w .long1) first1 code first2 → Laid (w .long1) xs → PartSwept (not (eqb code 0)) c (w .long2) xs ys from l r l′ → RouteSwept t w (sideOf first1) (sideOf first2) xs ys from l r l′
+pub route-part : (t : ℕ) (w : EdgePair) (first1 first2 : Bool) (xs ys : List ℕ) (from code : ℕ) (c : Cursor) (l : List ℕ) (r : ℕ) (l′ : List ℕ) → code ≡ codeBetween w (sideOf first1) (sideOf first2) → c ≡ routeCursor t (w .length1) first1 code first2 → t < 4294967296 → Laid (w .length1) xs → PartSwept (not (eqb code 0)) c (w .length2) xs ys from l r l′ → RouteSwept t w (sideOf first1) (sideOf first2) xs ys from l r l′
 unfolding routeMarks routeSum distanceBetween decode positions marked markedIf resting routeCursor
-route-part t w first1 first2 xs ys from zero c l r l′ told made laid done =
+route-part t w first1 first2 xs ys from zero c l r l′ told made low laid done =
     record {
       positions-are = done .positions-are ∙ ap (λ (m : List ℕ). placed from m l) (zeros (λ x. 0) xs (λ n. refl) ∙ ap (λ (n : ℕ). replicate n 0) (sym (length-map xs (at none))) ∙ sym (zeros (marked none) (map (at none) xs) (λ n. refl)) ∙ ap (λ (d : Distance). map (marked d) (map (at d) xs)) (sym beyond));
       moves-are = done .moves-are ∙ sym (ap (λ (d : Distance). marked d (moves (rest (sideOf first1) ys) (map (at d) xs))) beyond);
     }
   where
     at : Distance → ℕ → ℕ
-    at d = position t (w .long1) (sideOf first1) d (w .long2) (sideOf first2) ys
+    at d = position t (w .length1) (sideOf first1) d (w .length2) (sideOf first2) ys
 
     beyond : decode (codeBetween w (sideOf first1) (sideOf first2)) ≡ none
     beyond = rw (sym told) refl
-route-part t w first1 first2 xs ys from (suc n) c l r l′ told made laid done =
+route-part t w first1 first2 xs ys from (suc n) c l r l′ told made low laid done =
     record {
       positions-are = some .positions-are ∙ ap (λ (m : List ℕ). placed from m l) (map-agree _ _ xs (λ k h. ap suc (stands k h)) ∙ sym (map-map suc (at (metres n)) xs) ∙ ap (λ (d : Distance). map (marked d) (map (at d) xs)) (sym found));
       moves-are = some .moves-are ∙ ap (λ (m : List ℕ). suc (moves (rest (sideOf first1) ys) m)) (map-agree _ _ xs stands) ∙ ap (λ (d : Distance). marked d (moves (rest (sideOf first1) ys) (map (at d) xs))) (sym found);
     }
   where
     at : Distance → ℕ → ℕ
-    at d = position t (w .long1) (sideOf first1) d (w .long2) (sideOf first2) ys
+    at d = position t (w .length1) (sideOf first1) d (w .length2) (sideOf first2) ys
 
-    some : PartSwept true (routeCursor t (w .long1) first1 (suc n) first2) (w .long2) xs ys from l r l′
+    some : PartSwept true (routeCursor t (w .length1) first1 (suc n) first2) (w .length2) xs ys from l r l′
     some = rw (← made, ← ap not (eqb·suc-zero n)) done
 
     found : decode (codeBetween w (sideOf first1) (sideOf first2)) ≡ metres n
     found = rw (sym told) refl
 
-    stands : (k : ℕ) → k < length xs → standing (routeCursor t (w .long1) first1 (suc n) first2) (w .long2) ys (getD xs k 0) ≡ at (metres n) (getD xs k 0)
-    stands k h = route-standing t (w .long1) (w .long2) n first1 first2 ys (getD xs k 0) (laid .on-edge .on k h)
+    stands : (k : ℕ) → k < length xs → standing (routeCursor t (w .length1) first1 (suc n) first2) (w .length2) ys (getD xs k 0) ≡ at (metres n) (getD xs k 0)
+    stands k h = route-standing t (w .length1) (w .length2) (suc n) first1 first2 ys (getD xs k 0) low (laid .on-edge .on k h)

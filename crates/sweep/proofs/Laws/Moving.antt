@@ -10,10 +10,10 @@ use borrow.Author.Tests.{lt-ltb, le-ltb}
 use lib.Dec.{ltb}
 use lib.ListN.{length}
 use Rattle.model.specs.Location.{Side, at-first, at-second}
-use Rattle.model.proofs.Laws.Counting.{count-at-most}
-use Rattle.prepare.specs.Offsets.{Ordered}
-use Rattle.sweep.proofs.Laws.Nearest.{nearest-first, nearest-second}
-use Rattle.sweep.specs.Moving.{sideOf, reach, gapAt, isWithin, fallenFrom, risenFrom, movedOn}
+use Rattle.edge_pair.specs.Offsets.{Ordered}
+use Rattle.sweep.proofs.Laws.Nearest.{reached-in, first-within, nearest-second}
+use Rattle.sweep.specs.Moving.{reach, gapAt, isWithin, fallenFrom, risenFrom, movedOn}
+use Rattle.edge_pair.specs.Edges.{sideOf}
 use Rattle.sweep.specs.Sweeping.{reached, standing, Passes, Movable}
 use Rattle.sweep.specs.declared.cursor.Cursor.{Cursor}
 
@@ -142,15 +142,10 @@ module _ (test : ℕ → Bool) where
         go (yes i) rest = rw (passes k (omega arith) ∙ lt-ltb k m i) (rest (omega arith) i l)
         go (no i) rest = rw (passes k (omega arith) ∙ le-ltb k m (omega arith)) (omega arith)
 
--- never more than there are
-pub reached-in : (q : ℕ) (s : Side) (n : ℕ) (ys : List ℕ) → reached q s n ys ≤ length ys
-unfolding reached
-reached-in q s n ys = count-at-most _ ys
-
 -- the events within a reach are the nearest ones
 nearest : (q : ℕ) (s : Side) (n : ℕ) (ys : List ℕ) → Ordered ys → (k : ℕ) → k < length ys → isWithin q s n ys k ≡ ltb k (reached q s n ys)
 unfolding isWithin gapAt
-nearest q at-first n ys o k h = nearest-first q n ys o k h
+nearest q at-first n ys o k h = first-within q n ys o k h
 nearest q at-second n ys o k h = nearest-second q n ys o k h
 
 by-kind : (b : Bool) {m n r : ℕ} → (b ≡ true → m ≡ r) → (b ≡ false → n ≡ r) → cond b m n ≡ r

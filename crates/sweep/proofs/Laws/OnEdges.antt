@@ -1,7 +1,7 @@
 -- What lies on one edge of events laid out: offsets in rising order, none of them beyond the edge.
 use mathlib.Core.Bool.{Bool, true, false, cond}
 use mathlib.Core.List.{List, [], _∷_}
-use mathlib.Core.Path.{_≡_, _∙_, refl, sym, ap₂}
+use mathlib.Core.Path.{_≡_, _∙_, refl, sym}
 use Prim.Native.Nat.{ℕ, zero, suc, pred, _≤_, _<_}
 use native.Mathlib.Nat.{not-suc-le-zero}
 use native.Mathlib.Omega.{arith}
@@ -10,13 +10,12 @@ use lib.Dec.{eqb}
 use lib.ListN.{length, getD}
 use Rattle.model.proofs.Laws.Checks.{LaidOutAccepted}
 use Rattle.model.proofs.Laws.Counting.{count-at-most}
-use Rattle.model.specs.Events.{event, events, having, before, setSize, InOrder}
+use Rattle.model.proofs.Laws.Sorted.{in-order-rest, first-in-order, same-edge}
+use Rattle.model.proofs.Laws.Stretch.{having-length}
+use Rattle.model.specs.Events.{event, events, having, setSize, InOrder}
 use Rattle.model.specs.Network.{Network, size}
 use Rattle.model.specs.PairCount.{eventAt}
-use Rattle.sweep.specs.Six.{Laid}
-use Rattle.prepare.specs.Offsets.{Ordered}
-use Rattle.prepare.proofs.Laws.Groups.{having-length}
-use Rattle.prepare.proofs.Laws.InRuns.{in-order-at, same-edge}
+use Rattle.edge_pair.specs.Offsets.{Laid, Ordered}
 
 -- what holds of everything beside a key holds of all that is taken from there
 having-all : (P : ℕ → Type 0) (e : ℕ) (es xs : List ℕ) → ((k : ℕ) → k < length es → k < length xs → getD es k 0 ≡ e → P (getD xs k 0)) → (k : ℕ) → k < length (having e es xs) → P (getD (having e es xs) k 0)
@@ -40,22 +39,6 @@ ordered-more x xs least rest = record { in-order = go }
     go (suc i) zero h l = absurd (omega arith)
     go (suc i) (suc j) h l = rest .in-order i j (omega arith) (omega arith)
 
--- offsets rise where edges are the same
-record InTurn (es xs : List ℕ) : Type 0 where
-  in-turn : (i j : ℕ) → i < j → j < length es → j < length xs → getD es i 0 ≡ getD es j 0 → getD xs i 0 ≤ getD xs j 0
-
-having-ordered : (e : ℕ) (es xs : List ℕ) → InTurn es xs → Ordered (having e es xs)
-unfolding having
-having-ordered e [] xs o = record { in-order = λ i j h l. absurd (not-suc-le-zero l) }
-having-ordered e (t ∷ ts) [] o = record { in-order = λ i j h l. absurd (not-suc-le-zero l) }
-having-ordered e (t ∷ ts) (x ∷ xs) o =
-    go (eqb t e) refl (having-ordered e ts xs (record { in-turn = λ i j h m n same. o .in-turn (suc i) (suc j) (omega arith) (omega arith) (omega arith) same }))
-  where
-    go : (b : Bool) → eqb t e ≡ b → Ordered (having e ts xs) → Ordered (cond b (x ∷ having e ts xs) (having e ts xs))
-    go true q rest =
-        ordered-more x (having e ts xs) (having-all (λ y. x ≤ y) e ts xs (λ k m n same. o .in-turn 0 (suc k) (omega arith) (omega arith) (omega arith) (eqb-true t e q ∙ sym same))) rest
-    go false q rest = rest
-
 -- the event at a place of both lists
 events-in : (es xs : List ℕ) (k : ℕ) → k < length es → k < length xs → k < length (events es xs)
 unfolding events
@@ -73,9 +56,18 @@ events-at (e ∷ es) (x ∷ xs) (suc k) h l = events-at es xs k (omega arith) (o
 
 -- so the offsets on an edge are in order
 pub on-edge-ordered : (es xs : List ℕ) → InOrder (events es xs) → (e : ℕ) → Ordered (having e es xs)
-on-edge-ordered es xs o e =
-    having-ordered e es xs
-    (record { in-turn = λ i j h m n same. same-edge (event (getD es i 0) (getD xs i 0)) (event (getD es j 0) (getD xs j 0)) same (sym (ap₂ before (events-at es xs j m n) (events-at es xs i (omega arith) (omega arith))) ∙ in-order-at (events es xs) o i j h (events-in es xs j m n)) })
+unfolding having events
+on-edge-ordered [] xs o e = record { in-order = λ i j h l. absurd (not-suc-le-zero l) }
+on-edge-ordered (t ∷ ts) [] o e = record { in-order = λ i j h l. absurd (not-suc-le-zero l) }
+on-edge-ordered (t ∷ ts) (x ∷ xs) o e = go (eqb t e) refl (on-edge-ordered ts xs (in-order-rest o) e)
+  where
+    least : t ≡ e → (k : ℕ) → k < length ts → k < length xs → getD ts k 0 ≡ e → x ≤ getD xs k 0
+    least q k m n same =
+        same-edge (event t x) (event (getD ts k 0) (getD xs k 0)) (q ∙ sym same) (rw (events-at ts xs k m n) at (first-in-order (event t x) (events ts xs) o k (events-in ts xs k m n)))
+
+    go : (b : Bool) → eqb t e ≡ b → Ordered (having e ts xs) → Ordered (cond b (x ∷ having e ts xs) (having e ts xs))
+    go true q rest = ordered-more x (having e ts xs) (having-all (λ y. x ≤ y) e ts xs (least (eqb-true t e q))) rest
+    go false q rest = rest
 
 few-on-edge : (es : List ℕ) (e : ℕ) → setSize es e ≤ length es
 unfolding setSize

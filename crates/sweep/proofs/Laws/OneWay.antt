@@ -8,7 +8,7 @@ use lib.ListN.{length, getD}
 use Rattle.model.specs.Distance.{difference}
 use Rattle.model.specs.Location.{Side, at-first, at-second}
 use Rattle.sweep.specs.Cursors.{rest, moves, OneWay, fallen, falls, risen, rises}
-use Rattle.prepare.specs.Offsets.{Ordered}
+use Rattle.edge_pair.specs.Offsets.{Ordered}
 use Rattle.sweep.specs.Sweeping.{Passes}
 
 pub passes-self : (s : Side) (a : ℕ) → Passes s a a

@@ -11,7 +11,7 @@ use Rattle.model.specs.Location.{Side, at-first, at-second, gap, reaches}
 use Rattle.model.proofs.Laws.Counting.{count-mono, count-at-most}
 use Rattle.sweep.proofs.Laws.OneWay.{one-way-of, moves-few, last-in, rest-in, from-rest}
 use Rattle.sweep.specs.Cursors.{position, positions, below, upTo, rest, moves, OneWay, Rising}
-use Rattle.prepare.specs.Offsets.{Ordered}
+use Rattle.edge_pair.specs.Offsets.{Ordered}
 use Rattle.sweep.specs.Sweeping.{Passes}
 
 -- lesser gaps are reached too

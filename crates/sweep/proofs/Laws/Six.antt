@@ -11,12 +11,12 @@ use Rattle.model.specs.declared.check.Check.the-variants.{Accepted}
 use Rattle.sweep.proofs.Laws.Kinds.{map-agree, below-standing, up-to-standing}
 use Rattle.sweep.specs.Answers.{markedIf}
 use Rattle.sweep.specs.Cursors.{positions, below, upTo, rest, moves}
-use Rattle.sweep.specs.Ends.{distanceBetween}
+use Rattle.edge_pair.specs.Edges.{sideOf, distanceBetween}
 use Rattle.sweep.specs.Six.{routeMarks, windowMarks, windowSum, sixMarks, sixSums, placed, PartSwept, RouteSwept, EdgesSweepable, EdgesSwept}
-use Rattle.sweep.specs.Moving.{sideOf, belowCursor, upToCursor}
+use Rattle.sweep.specs.Moving.{belowCursor, upToCursor}
 use Rattle.sweep.specs.Sweeping.{standing, resting}
 use Rattle.sweep.specs.declared.cursor.Cursor.{Cursor}
-use Rattle.sweep.specs.declared.sweeping.Edges.{Edges}
+use Rattle.edge_pair.specs.declared.edges.EdgePair.{EdgePair}
 
 -- one part more behind those that are written
 more : (done part old l l′ : List ℕ) (from : ℕ) → from ≡ length done → l ≡ written Accepted done old → l′ ≡ placed from part l → l′ ≡ written Accepted (done ++ part) old
@@ -45,12 +45,12 @@ nothing-written : (l : List ℕ) → l ≡ written Accepted [] l
 unfolding written
 nothing-written l = refl
 
-module _ (t : ℕ) (w : Edges) (xs ys : List ℕ) where
+module _ (t : ℕ) (w : EdgePair) (xs ys : List ℕ) where
   abbrev marks : Side → Side → List ℕ
-  marks s s′ = routeMarks t (w .long1) (w .long2) (distanceBetween w) (w .same) xs ys s s′
+  marks s s′ = routeMarks t (w .length1) (w .length2) (distanceBetween w) (w .same) xs ys s s′
 
   abbrev window : (List ℕ → ℕ → ℕ) → List ℕ
-  window f = windowMarks t (w .long1) (w .long2) (distanceBetween w) (w .same) xs ys f
+  window f = windowMarks t (w .length1) (w .length2) (distanceBetween w) (w .same) xs ys f
 
   marks-length : (s s′ : Side) → length (marks s s′) ≡ length xs
   unfolding routeMarks positions
@@ -61,7 +61,7 @@ module _ (t : ℕ) (w : Edges) (xs ys : List ℕ) where
   window-length f = simp length-map
 
   -- a cursor of the window is where f says
-  window-marks : (c : Cursor) (f : List ℕ → ℕ → ℕ) (from r : ℕ) (l l′ : List ℕ) → ((x : ℕ) → standing c (w .long2) ys x ≡ f ys x) → resting c ys ≡ 0 → PartSwept (w .same) c (w .long2) xs ys from l r l′ → (l′ ≡ placed from (window f) l) × (r ≡ windowSum t (w .long1) (w .long2) (distanceBetween w) (w .same) xs ys f)
+  window-marks : (c : Cursor) (f : List ℕ → ℕ → ℕ) (from r : ℕ) (l l′ : List ℕ) → ((x : ℕ) → standing c (w .length2) ys x ≡ f ys x) → resting c ys ≡ 0 → PartSwept (w .same) c (w .length2) xs ys from l r l′ → (l′ ≡ placed from (window f) l) × (r ≡ windowSum t (w .length1) (w .length2) (distanceBetween w) (w .same) xs ys f)
   unfolding windowMarks windowSum
   window-marks c f from r l l′ stands rests done = (
     done .positions-are ∙ ap (λ (m : List ℕ). placed from m l) (map-agree _ _ xs (λ k h. ap (markedIf (w .same)) (stands _))),
@@ -77,7 +77,7 @@ module _ (t : ℕ) (w : Edges) (xs ys : List ℕ) where
   up-to-rests = refl
 
   -- all six
-  pub all-six : (low high : Cursor) (l₀ l₁ l₂ l₃ l₄ l₅ l₆ m : List ℕ) (r₁ r₂ r₃ r₄ r₅ r₆ : ℕ) → EdgesSweepable w xs ys l₀ m → RouteSwept t w at-first at-first xs ys 0 l₀ r₁ l₁ → RouteSwept t w at-first at-second xs ys (length xs) l₁ r₂ l₂ → RouteSwept t w at-second at-first xs ys (2 * length xs) l₂ r₃ l₃ → RouteSwept t w at-second at-second xs ys (3 * length xs) l₃ r₄ l₄ → low ≡ belowCursor t → PartSwept (w .same) low (w .long2) xs ys (4 * length xs) l₄ r₅ l₅ → high ≡ upToCursor t → PartSwept (w .same) high (w .long2) xs ys (5 * length xs) l₅ r₆ l₆ → EdgesSwept t w xs ys l₀ m l₆ (set (set (set (set (set (set m 0 r₁) 1 r₂) 2 r₃) 3 r₄) 4 r₅) 5 r₆)
+  pub all-six : (low high : Cursor) (l₀ l₁ l₂ l₃ l₄ l₅ l₆ m : List ℕ) (r₁ r₂ r₃ r₄ r₅ r₆ : ℕ) → EdgesSweepable w xs ys l₀ m → RouteSwept t w at-first at-first xs ys 0 l₀ r₁ l₁ → RouteSwept t w at-first at-second xs ys (length xs) l₁ r₂ l₂ → RouteSwept t w at-second at-first xs ys (2 * length xs) l₂ r₃ l₃ → RouteSwept t w at-second at-second xs ys (3 * length xs) l₃ r₄ l₄ → low ≡ belowCursor t → PartSwept (w .same) low (w .length2) xs ys (4 * length xs) l₄ r₅ l₅ → high ≡ upToCursor t → PartSwept (w .same) high (w .length2) xs ys (5 * length xs) l₅ r₆ l₆ → EdgesSwept t w xs ys l₀ m l₆ (set (set (set (set (set (set m 0 r₁) 1 r₂) 2 r₃) 3 r₄) 4 r₅) 5 r₆)
   unfolding sixMarks sixSums
   all-six low high l₀ l₁ l₂ l₃ l₄ l₅ l₆ m r₁ r₂ r₃ r₄ r₅ r₆ ready p₁ p₂ p₃ p₄ is-low p₅ is-high p₆ =
       let n₁ = marks-length at-first at-first in
@@ -85,8 +85,8 @@ module _ (t : ℕ) (w : Edges) (xs ys : List ℕ) where
       let n₃ = marks-length at-second at-first in
       let n₄ = marks-length at-second at-second in
       let n₅ = window-length (below t) in
-      let w₅ = window-marks (belowCursor t) (below t) (4 * length xs) r₅ l₄ l₅ (below-standing t (w .long2) ys) below-rests (rw is-low at p₅) in
-      let w₆ = window-marks (upToCursor t) (upTo t) (5 * length xs) r₆ l₅ l₆ (up-to-standing t (w .long2) ys) up-to-rests (rw is-high at p₆) in
+      let w₅ = window-marks (belowCursor t) (below t) (4 * length xs) r₅ l₄ l₅ (below-standing t (w .length2) ys) below-rests (rw is-low at p₅) in
+      let w₆ = window-marks (upToCursor t) (upTo t) (5 * length xs) r₆ l₅ l₆ (up-to-standing t (w .length2) ys) up-to-rests (rw is-high at p₆) in
       let o₁ = marks at-first at-first in
       let o₂ = marks at-first at-second in
       let o₃ = marks at-second at-first in

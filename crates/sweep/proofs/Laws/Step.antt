@@ -16,12 +16,13 @@ use Rattle.model.proofs.Laws.Lists.{map-at}
 use Rattle.sweep.proofs.Laws.Moving.{at-most}
 use Rattle.sweep.proofs.Laws.OneWay.{passes-self, add-up, rest-in, from-rest}
 use Rattle.sweep.specs.Cursors.{rest, moves}
-use Rattle.sweep.specs.Moving.{sideOf, reach}
+use Rattle.sweep.specs.Moving.{reach}
+use Rattle.edge_pair.specs.Edges.{sideOf}
 use Rattle.sweep.specs.Sweeping.{reached, standing, resting, Passes, Movable, Sweepable, Swept}
 use Rattle.sweep.specs.declared.cursor.Cursor.{Cursor}
 
 -- more is reached with a greater reach
-reached-more : (q : ℕ) (s : Side) (m n : ℕ) (ys : List ℕ) → m ≤ n → reached q s m ys ≤ reached q s n ys
+pub reached-more : (q : ℕ) (s : Side) (m n : ℕ) (ys : List ℕ) → m ≤ n → reached q s m ys ≤ reached q s n ys
 unfolding reached
 reached-more q s m n ys h = count-mono _ _ ys (λ y e. lt-ltb (gap q s y) n (omega (arith, ltb-true (gap q s y) m e)))
 

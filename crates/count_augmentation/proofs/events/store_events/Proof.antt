@@ -3,8 +3,7 @@ use Prim.Native.Nat.{_-_}
 use native.Mathlib.Omega.{arith}
 use lib.ListN.{length}
 use Rattle.model.proofs.Laws.Equals.{Equals, equals-end}
-use Rattle.count_augmentation.proofs.Laws.Edges.{StoredUpTo, nothing-stored, edge-cut, edge-stored, all-events}
-use Rattle.count_augmentation.proofs.Laws.Storage.{RunCut, storable}
+use Rattle.count_augmentation.proofs.Laws.Edges.{RunCut, StoredUpTo, nothing-stored, edge-cut, edge-stored, all-events}
 use borrow.Author.Needs.{needs}
 use Rattle.count_augmentation.proofs.events.store_events.Statement.{statement}
 use Rattle.count_augmentation.proofs.events.store_events.Tie as tie
@@ -67,15 +66,13 @@ part-store-end-3 : tie.Need-part-store-end-3 Inv-loop μ-loop
 part-store-end-3 c = cut (c .before .before) .in-second
 
 store-requires : tie.Need-store-requires Inv-loop μ-loop
-store-requires c κs =
-    let run = cut (c .before .before .before) in
-    (storable run _ (run .in-first), storable run _ (run .in-second))
+store-requires c κs = search needs
 
 loop-less : tie.Need-loop-less Inv-loop μ-loop
 loop-less c = omega (arith, ended (c .before .before .before .before .before .before .before .before) .further, c .before .before .before .before .before .before .before .before .before .loop-test .taken)
 
 loop-again : tie.Need-loop-again Inv-loop μ-loop
-loop-again c = edge-stored (c .before .before .before .before .before .before .before .before .before .before .before .before .before .before .before .pre .0) (c .before .before .before .before .before .before .before .before .before .before .before .before .before .before .before .pre .1) (c .before .before .before .before .before .before .before .before .before .before .before .before .before .before .before .pre .2) (c .before .before .before .before .before .before .before .before .before .before .loop .inv) (ended (c .before .before .before .before .before .before .before .before)) _ _ (c .before .before .before .near-first .given .1) (c .before .near-second .given .1) (c .before .before .before .before .store .ensures)
+loop-again c = edge-stored (c .before .before .before .before .before .before .before .before .before .before .before .before .before .before .before .pre .0) (c .before .before .before .before .before .before .before .before .before .before .before .before .before .before .before .pre .1) (c .before .before .before .before .before .before .before .before .before .before .before .before .before .before .before .pre .2) (c .before .before .before .before .before .before .before .before .before .before .loop .inv) (ended (c .before .before .before .before .before .before .before .before)) _ _ (c .before .before .before .near-first .given .1) (c .before .near-second .given .1) (c .before .before .before .before .store .ensures .1)
 
 same-length : tie.Need-same-length Inv-loop μ-loop
 same-length c = c .before .loop .inv .first-long

@@ -1,6 +1,7 @@
 -- The routes that arrive at one end reach what the farther of the two does.
+use Prim.Native.Nat.{ℕ, _-_, _≤_}
+use native.Mathlib.Omega.{arith}
 use Rattle.neighbor_sharing.specs.Joined.{joinedOf}
-use Rattle.neighbor_sharing.proofs.Laws.Joined.{left-few}
 use borrow.Author.Needs.{needs}
 use Rattle.neighbor_sharing.proofs.joining.joined_of.Statement.{statement}
 use Rattle.neighbor_sharing.proofs.joining.joined_of.Tie as tie
@@ -13,6 +14,10 @@ greater-requires-2 c κs = search needs
 
 covered-requires : tie.Need-covered-requires
 covered-requires c κs = search needs
+
+-- no more are reached than there are
+left-few : (n a b : ℕ) → n - a - b ≤ n
+left-few n a b = omega arith
 
 returns : tie.Need-returns
 unfolding joinedOf

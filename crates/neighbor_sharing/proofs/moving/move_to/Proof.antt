@@ -1,6 +1,6 @@
 -- Each of the six by itself.
+use mathlib.Core.Path.{refl}
 use Rattle.neighbor_sharing.specs.Stands.{standsMoved}
-use Rattle.neighbor_sharing.proofs.Laws.Stands.{all-moved}
 use borrow.Author.Needs.{needs}
 use Rattle.neighbor_sharing.proofs.moving.move_to.Statement.{statement}
 use Rattle.neighbor_sharing.proofs.moving.move_to.Tie as tie
@@ -30,9 +30,9 @@ window-to-requires-2 : tie.Need-window-to-requires-2
 window-to-requires-2 c κs = search needs
 
 returns : tie.Need-returns
+unfolding standsMoved
 returns c =
-    let a = c .before .before .before .before .before .before .before .before .before .args in
-    all-moved (a .threshold) (a .edges) (a .ys .now) (a .x) (a .from) (c .before .before .before .below .ensures) (c .before .up-to .ensures) (c .before .before .before .before .before .before .before .route-to .ensures) (c .before .before .before .before .before .before .route-to2 .ensures) (c .before .before .before .before .before .route-to3 .ensures) (c .before .before .before .before .route-to4 .ensures) (c .before .before .window-to .ensures) (c .window-to2 .ensures)
+    rw (← c .before .before .before .below .ensures, ← c .before .up-to .ensures, ← c .before .before .before .before .before .before .before .route-to .ensures, ← c .before .before .before .before .before .before .route-to2 .ensures, ← c .before .before .before .before .before .route-to3 .ensures, ← c .before .before .before .before .route-to4 .ensures, ← c .before .before .window-to .ensures, ← c .window-to2 .ensures) refl
 
 pub move-to-spec : {M : Type 1} → statement M
 move-to-spec =

@@ -1,12 +1,10 @@
 -- What is added up, and what is left to add by cursors moved on from where they stand, are all.
-use mathlib.Core.Path.{_∙_}
 use Prim.Native.Nat.{_-_, _*_, _≤_}
 use native.Mathlib.Omega.{arith}
 use lib.ListN.{length}
 use Rattle.model.specs.Limits.{maxEvents}
 use Rattle.model.proofs.Laws.Equals.{Equals, equals-end}
-use Rattle.neighbor_sharing.proofs.Laws.Joined.{sum-reached}
-use Rattle.neighbor_sharing.proofs.Laws.Stands.{Sharing, none-shared, equals-few, run-shared, all-shared, shared-swept}
+use Rattle.neighbor_sharing.proofs.Laws.Sharing.{Sharing, none-shared, equals-few, run-shared, all-shared}
 use borrow.Author.Needs.{needs}
 use Rattle.neighbor_sharing.proofs.pairs.count_pairs.Statement.{statement}
 use Rattle.neighbor_sharing.proofs.pairs.count_pairs.Tie as tie
@@ -63,9 +61,7 @@ loop-again c =
     run-shared _ _ _ _ (c .before .before .before .before .before .before .before .before .before .pre .1) (c .before .before .before .before .before .loop .inv) (ended (c .before)) (c .before .before .move-to .ensures) (c .joined-of .ensures .0) (c .joined-of .ensures .1)
 
 returns : tie.Need-returns Inv-loop μ-loop
-returns c =
-    let done = all-shared _ _ _ _ (c .before .loop .inv) (c .loop-test .left) in
-    (done, λ laid. (done ∙ shared-swept _ _ _ _ laid ∙ sum-reached _ _ _ _ (laid .second-laid .ordered), omega (arith, c .before .loop .inv .total-few, c .before .loop .inv .i-in, c .before .before .before .before .before .pre .0)))
+returns c = all-shared _ _ _ _ (c .before .loop .inv) (c .loop-test .left)
 
 pub count-pairs-spec : {M : Type 1} → statement M
 count-pairs-spec =

@@ -3,7 +3,8 @@ use mathlib.Core.Path.{_≡_, _∙_, refl, sym}
 use Prim.Native.Nat.{_≤_}
 use native.Mathlib.Omega.{arith}
 use lib.ListN.{length}
-use Rattle.sweep.specs.Moving.{sideOf, isWithin, fallenFrom}
+use Rattle.sweep.specs.Moving.{isWithin, fallenFrom}
+use Rattle.edge_pair.specs.Edges.{sideOf}
 use Rattle.sweep.proofs.Laws.Moving.{falls-no-more, falls-one, falls-to-none}
 use Rattle.sweep.proofs.cursor.fall.Statement.{statement}
 use Rattle.sweep.proofs.cursor.fall.Tie as tie

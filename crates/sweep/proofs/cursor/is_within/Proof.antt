@@ -3,7 +3,8 @@ use mathlib.Core.Path.{refl}
 use Prim.Native.Nat.{_-_}
 use native.Mathlib.Omega.{arith}
 use lib.ListN.{length}
-use Rattle.sweep.specs.Moving.{sideOf, gapAt, isWithin}
+use Rattle.sweep.specs.Moving.{gapAt, isWithin}
+use Rattle.edge_pair.specs.Edges.{sideOf}
 use borrow.Author.Needs.{needs}
 use Rattle.sweep.proofs.cursor.is_within.Statement.{statement}
 use Rattle.sweep.proofs.cursor.is_within.Tie as tie

@@ -1,6 +1,6 @@
 -- Falling or rising.
 use Rattle.sweep.specs.Cursors.{rest}
-use Rattle.sweep.specs.Moving.{sideOf}
+use Rattle.edge_pair.specs.Edges.{sideOf}
 use Rattle.sweep.specs.Sweeping.{resting}
 use Rattle.sweep.proofs.cursor.rest.Statement.{statement}
 use Rattle.sweep.proofs.cursor.rest.Tie as tie

@@ -4,7 +4,8 @@ use Prim.Native.Nat.{_-_}
 use native.Mathlib.Omega.{arith}
 use borrow.Author.Tests.{not-true, not-false}
 use lib.ListN.{length}
-use Rattle.sweep.specs.Moving.{sideOf, isWithin, risenFrom}
+use Rattle.sweep.specs.Moving.{isWithin, risenFrom}
+use Rattle.edge_pair.specs.Edges.{sideOf}
 use Rattle.sweep.proofs.Laws.Moving.{rises-no-more, rises-one, rises-to-all}
 use Rattle.sweep.proofs.cursor.rise.Statement.{statement}
 use Rattle.sweep.proofs.cursor.rise.Tie as tie

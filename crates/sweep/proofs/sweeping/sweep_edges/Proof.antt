@@ -1,7 +1,7 @@
 -- The six parts are written one after the other.
 use mathlib.Core.Path.{_∙_}
 use lib.ListN.{length-set}
-use Rattle.sweep.specs.Moving.{sideOf}
+use Rattle.edge_pair.specs.Edges.{sideOf}
 use Rattle.sweep.proofs.Laws.Six.{all-six}
 use borrow.Author.Needs.{needs}
 use native.Mathlib.Omega.{arith}

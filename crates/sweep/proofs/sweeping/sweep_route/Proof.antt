@@ -1,4 +1,5 @@
 -- The part of a route, by its code.
+use native.Mathlib.Omega.{arith}
 use Rattle.sweep.proofs.Laws.Marks.{route-part}
 use borrow.Author.Needs.{needs}
 use Rattle.sweep.proofs.sweeping.sweep_route.Statement.{statement}
@@ -19,7 +20,7 @@ same-length c = search needs
 returns : tie.Need-returns
 returns c =
     let made = c .before .before .before .before in
-    route-part _ _ _ _ _ _ _ _ _ _ _ _ (made .before .code-between .ensures) (made .route .ensures) (made .before .before .before .before .before .pre .first-laid) (c .before .before .sweep-part .ensures)
+    route-part _ _ _ _ _ _ _ _ _ _ _ _ (made .before .code-between .ensures) (made .route .ensures) (omega arith) (made .before .before .before .before .before .pre .first-laid) (c .before .before .sweep-part .ensures)
 
 pub sweep-route-spec : {M : Type 1} → statement M
 sweep-route-spec =

@@ -25,8 +25,8 @@ returns c = table-refused (c .before .before .before .check-table .ensures) (c .
 enum-told : tie.Need-enum-told
 enum-told c = search needs
 
-pair-counts-requires : tie.Need-pair-counts-requires
-pair-counts-requires c κs = search needs
+counts-requires : tie.Need-counts-requires
+counts-requires c κs = search needs
 
 greatest-set-requires : tie.Need-greatest-set-requires
 greatest-set-requires c κs = search needs
@@ -38,7 +38,7 @@ fill-columns-requires : tie.Need-fill-columns-requires
 fill-columns-requires c κs =
     columns-fit
     (table-accepted (c .before .before .before .before .before .before .before .before .before .before .check-table .ensures) (c .before .before .before .before .before .before .before .before .enum-told .given .1))
-    (c .before .before .before .before .before .before .pair-counts .ensures) (c .before .before .before .before .before .before .before .pair-counts-arg .given .0 .1) (c .before .before .before .before .before .greatest-set .ensures) (c .before .before .before .fill-columns-arg2 .given .0)
+    (c .before .before .before .before .before .before .counts .ensures) (c .before .before .before .before .before .before .before .counts-arg .given .0 .1) (c .before .before .before .before .before .greatest-set .ensures) (c .before .before .before .fill-columns-arg2 .given .0)
 
 same-length-4 : tie.Need-same-length-4
 same-length-4 c = search needs
@@ -53,7 +53,7 @@ returns-2 : tie.Need-returns-2
 returns-2 c =
     table-answered
     (table-accepted (c .before .before .before .before .before .before .before .before .before .before .before .before .before .before .before .before .before .check-table .ensures) (c .before .before .before .before .before .before .before .before .before .before .before .before .before .before .before .enum-told .given .1))
-    (c .before .before .before .before .before .before .before .before .before .before .before .before .before .pair-counts .ensures) (c .before .before .before .before .before .before .before .before .before .before .before .before .before .before .pair-counts-arg .given .0 .1) (c .before .before .before .before .before .before .before .before .before .before .before .before .greatest-set .ensures) (c .before .before .before .before .before .before .fill-columns .ensures)
+    (c .before .before .before .before .before .before .before .before .before .before .before .before .before .counts .ensures) (c .before .before .before .before .before .before .before .before .before .before .before .before .before .before .counts-arg .given .0 .1) (c .before .before .before .before .before .before .before .before .before .before .before .before .greatest-set .ensures) (c .before .before .before .before .before .before .fill-columns .ensures)
 
 pub table-with-spec : {M : Type 1} → statement M
 table-with-spec =
@@ -66,7 +66,7 @@ table-with-spec =
     same-length-3
     returns
     enum-told
-    pair-counts-requires
+    counts-requires
     greatest-set-requires
     cast-greatest
     fill-columns-requires

@@ -1,0 +1,121 @@
+-- Entries doubled one after the other, and a row of counts written from totals.
+use mathlib.Core.Bool.{true, false}
+use mathlib.Core.List.{List, map}
+use mathlib.Core.Path.{_≡_, _∙_, refl, sym, ap}
+use Prim.Native.Nat.{ℕ, zero, suc, _+_, _-_, _*_, _%_, _≤_, _<_, min}
+use native.Mathlib.Decide.{ℕ-discrete}
+use native.Mathlib.Omega.{arith}
+use lib.ListN.{length, getD, set, length-set, length-map, replicate}
+use lib.Seq.{getD-set-same, getD-set-other}
+use Rattle.model.proofs.Laws.Counting.{sum-below-zero}
+use Rattle.model.proofs.Laws.Lists.{all-entries, map-at}
+use Rattle.model.proofs.Laws.Zeros.{cleared}
+use Rattle.model.specs.Counting.{sumBelow}
+use Rattle.model.specs.Network.{Network}
+use Rattle.edge_pair.proofs.Laws.Totals.{same-of, same-then, same-both, same-rest, same-small, same-turn}
+use Rattle.edge_pair.specs.Totals.{wrap, Same64, totalAt, Added}
+use Rattle.prepare.specs.RunPairs.{allPairs, otherPairs, otherRow}
+use Rattle.counting.proofs.Laws.Each.{both-are-all}
+use Rattle.counting.specs.Rows.{maxCount, Doubled, RowWritten, RowFits}
+use Rattle.counting.specs.Runs.{eachPairs}
+
+-- the first k entries are doubled
+pub record DoubledTo (k : ℕ) (old new : List ℕ) : Type 0 where
+  pub same-length : length new ≡ length old
+  pub before : (j : ℕ) → j < k → Same64 (getD new j 0) (getD old j 0 + getD old j 0)
+  pub behind : (j : ℕ) → k ≤ j → getD new j 0 ≡ getD old j 0
+
+pub none-doubled : (l : List ℕ) → DoubledTo 0 l l
+none-doubled l = record { same-length = refl; before = λ j h. absurd (omega arith); behind = λ j h. refl }
+
+pub one-doubled : {k : ℕ} {old new : List ℕ} (v : ℕ) → DoubledTo k old new → k < length old → v ≡ (getD new k 0 + getD new k 0) % wrap → DoubledTo (k + 1) old (set new k v)
+one-doubled {k} {old} {new} v d h e =
+    record {
+      same-length = simp length-set (d .same-length);
+      before = λ j l. go j l (ℕ-discrete j k);
+      behind = λ j l. getD-set-other new k j v 0 (λ same. omega arith) ∙ d .behind j (omega arith);
+    }
+  where
+    go : (j : ℕ) → j < k + 1 → Dec (j ≡ k) → Same64 (getD (set new k v) j 0) (getD old j 0 + getD old j 0)
+    go j l (yes same) =
+        rw same (same-then (same-of (getD-set-same new k v 0 (omega (arith, d .same-length)))) (same-then (same-rest e) (same-of (omega (arith, d .behind k (omega arith))))))
+    go j l (no other) = same-then (same-of (getD-set-other new k j v 0 other)) (d .before j (omega arith))
+
+pub all-doubled : {k : ℕ} {old new : List ℕ} → DoubledTo k old new → length new ≤ k → Doubled old new
+unfolding totalAt sumBelow
+all-doubled {k} {old} {new} d h =
+    record { same-length = d .same-length; at = λ j l. sums (suc j) (omega (arith, d .same-length)) }
+  where
+    sums : (n : ℕ) → n ≤ k → Same64 (sumBelow n (λ j. getD new j 0)) (2 * sumBelow n (λ j. getD old j 0))
+    sums zero l = same-of refl
+    sums (suc n) l = same-then (same-both (sums n (omega arith)) (d .before n l)) (same-of (omega arith))
+
+-- the first k counts are written, and the total is that of the entries before
+pub record RowTo (totals : List ℕ) (events k total : ℕ) (old row : List ℕ) : Type 0 where
+  pub same-length : length row ≡ length old
+  pub sum : Same64 total (sumBelow k (λ j. getD totals j 0))
+  pub before : (j : ℕ) → j < k → (n : ℕ) → n < wrap → Same64 (totalAt totals j) n → getD row j 0 ≡ min (n - events) maxCount
+
+pub row-begins : (totals : List ℕ) (events : ℕ) (row : List ℕ) → RowTo totals events 0 0 row row
+unfolding sumBelow
+row-begins totals events row = record { same-length = refl; sum = same-of refl; before = λ j h. absurd (omega arith) }
+
+pub row-more : {totals : List ℕ} {events k total : ℕ} {old row : List ℕ} (next v : ℕ) → RowTo totals events k total old row → k < length old → next ≡ (total + getD totals k 0) % wrap → next < wrap → v ≡ min (next - events) maxCount → RowTo totals events (k + 1) next old (set row k v)
+unfolding totalAt sumBelow
+row-more {totals} {events} {k} {total} {old} {row} next v w h e small count =
+    record {
+      same-length = simp length-set (w .same-length);
+      sum = same-then sums (same-of (ap (λ (n : ℕ). sumBelow n (λ j. getD totals j 0)) {x = suc k} {y = k + 1} (omega arith)));
+      before = λ j l. go j l (ℕ-discrete j k);
+    }
+  where
+    sums : Same64 next (sumBelow (suc k) (λ j. getD totals j 0))
+    sums = same-then (same-rest e) (same-both (w .sum) (same-of refl))
+
+    go : (j : ℕ) → j < k + 1 → Dec (j ≡ k) → (n : ℕ) → n < wrap → Same64 (totalAt totals j) n → getD (set row k v) j 0 ≡ min (n - events) maxCount
+    go j l (yes same) n fits alike =
+        let is : next ≡ n = same-small small fits (same-then sums (rw same at alike)) in
+        rw same (getD-set-same row k v 0 (omega (arith, w .same-length)) ∙ count ∙ ap (λ (m : ℕ). min (m - events) maxCount) is)
+    go j l (no other) n fits alike = getD-set-other row k j v 0 other ∙ w .before j (omega arith) n fits alike
+
+pub row-done : {totals : List ℕ} {events k total : ℕ} {old row : List ℕ} → RowTo totals events k total old row → length row ≤ k → RowWritten totals events (length old) row
+row-done w h = record { long = w .same-length; at = λ j l. w .before j (omega (arith, w .same-length)) }
+
+-- totals of zeros
+pub zero-total : (n k : ℕ) → totalAt (replicate n 0) k ≡ 0
+unfolding totalAt
+zero-total n k = sum-below-zero (suc k) _ (λ j h. cleared n refl j)
+
+-- the row of a set
+module _ {net : Network} {es xs bounds ts : List ℕ} {r q : ℕ} (fits : RowFits net es xs bounds ts r q) {none earlier twice totals : List ℕ} {events : ℕ}
+    (zero-at : (k : ℕ) → k < length ts → totalAt none k ≡ 0) (room : length ts ≤ length none)
+    (first : Added (length ts) (λ k. eachPairs net es xs bounds false (getD ts k 0) r (q - r)) none earlier) (doubled : Doubled earlier twice)
+    (second : Added (length ts) (λ k. eachPairs net es xs bounds true (getD ts k 0) r (q - r)) twice totals)
+    (events-are : events ≡ getD bounds q 0 - getD bounds r 0) where
+  total-is : (k : ℕ) → k < length ts → Same64 (totalAt totals k) (allPairs net es xs bounds (getD ts k 0) r (q - r))
+  total-is k h =
+      let one = first .at k h (omega (arith, room)) in
+      let two = doubled .at k (omega (arith, room, first .same-length)) in
+      let three = second .at k h (omega (arith, room, first .same-length, doubled .same-length)) in
+      let both = both-are-all net es xs bounds (getD ts k 0) r (q - r) in
+      record {
+        up = three .up + two .up + 2 * one .up;
+        down = three .down + two .down + 2 * one .down;
+        alike = omega (arith, one .alike, two .alike, three .alike, zero-at k h, both);
+      }
+
+  total-small : (k : ℕ) → k < length ts → allPairs net es xs bounds (getD ts k 0) r (q - r) < wrap
+  unfolding otherPairs
+  total-small k h = let fit = fits .at k h in omega (arith, fit .small, fit .few)
+
+  uncut : (k : ℕ) → k < length ts → min (allPairs net es xs bounds (getD ts k 0) r (q - r) - events) maxCount ≡ otherPairs net es xs bounds (getD ts k 0) r q
+  unfolding otherPairs
+  uncut k h = let fit = fits .at k h .small in rw events-are (omega (arith, fit))
+
+  pub row-is : {n : ℕ} {row : List ℕ} → n ≡ length ts → RowWritten totals events n row → row ≡ otherRow net es xs bounds ts r q
+  unfolding otherRow
+  row-is {n} {row} wide written =
+      let others : ℕ → ℕ = λ t. otherPairs net es xs bounds t r q in
+      let at : ℕ → ℕ = λ k. getD (map others ts) k 0 in
+      all-entries at row 0 n (written .long) (λ k h. written .at k h _ (total-small k (omega (arith, wide))) (total-is k (omega (arith, wide))) ∙ uncut k (omega (arith, wide)) ∙ sym (map-at others ts k (omega (arith, wide))) ∙ ap at (omega arith))
+      ∙ sym (all-entries at (map others ts) 0 n (length-map ts others ∙ sym wide) (λ k h. ap at (omega arith)))

@@ -1,0 +1,2 @@
+-- What the loops of the driver keep.
+pub mod Laws

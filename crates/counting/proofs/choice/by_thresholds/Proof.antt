@@ -1,0 +1,71 @@
+-- It is always one of the three kernels.
+use Prim.Native.Nat.{_*_, _≤_}
+use native.Mathlib.Nat.{mul-le-mul}
+use native.Mathlib.Omega.{arith}
+use Rattle.counting.specs.Kernels.{by-range-query, by-count-augmentation, by-neighbor-sharing}
+use borrow.Author.Needs.{needs}
+use Rattle.counting.proofs.choice.by_thresholds.Statement.{statement}
+use Rattle.counting.proofs.choice.by_thresholds.Tie as tie
+
+greatest-distance-requires : tie.Need-greatest-distance-requires
+greatest-distance-requires c κs = search needs
+
+first-admitting-requires : tie.Need-first-admitting-requires
+first-admitting-requires c κs = search needs
+
+lesser-requires : tie.Need-lesser-requires
+lesser-requires c κs = search needs
+
+less-requires : tie.Need-less-requires
+less-requires c κs = search needs
+
+lesser-requires-2 : tie.Need-lesser-requires-2
+lesser-requires-2 c κs = search needs
+
+lesser-requires-3 : tie.Need-lesser-requires-3
+lesser-requires-3 c κs = search needs
+
+mul-if1 : tie.Need-mul-if1
+mul-if1 c = search needs
+
+twice-a-threshold-requires : tie.Need-twice-a-threshold-requires
+twice-a-threshold-requires c κs = search needs
+
+mul-if1-2 : tie.Need-mul-if1-2
+mul-if1-2 c =
+    let b : c .before .before .lesser2 .result ≤ 65536 = omega (arith, c .before .before .lesser2 .ensures) in
+    omega (arith, mul-le-mul (c .twice-a-threshold .ensures) b)
+
+returns : tie.Need-returns
+returns c = λ ts. by-range-query
+
+returns-2 : tie.Need-returns-2
+returns-2 c = λ ts. by-count-augmentation
+
+mul-if3 : tie.Need-mul-if3
+mul-if3 c = omega (arith, c .before .before .before .before .before .lesser2 .ensures)
+
+returns-3 : tie.Need-returns-3
+returns-3 c = λ ts. by-neighbor-sharing
+
+returns-4 : tie.Need-returns-4
+returns-4 c = λ ts. by-count-augmentation
+
+pub by-thresholds-spec : {M : Type 1} → statement M
+by-thresholds-spec =
+    tie.close
+    (tie.spec
+    greatest-distance-requires
+    first-admitting-requires
+    lesser-requires
+    less-requires
+    lesser-requires-2
+    lesser-requires-3
+    mul-if1
+    twice-a-threshold-requires
+    mul-if1-2
+    returns
+    returns-2
+    mul-if3
+    returns-3
+    returns-4)

@@ -1,0 +1,160 @@
+// Which kernel two runs are counted by.
+ghost use mathlib.Core.Bool.{true};
+ghost use mathlib.Core.List.{List};
+ghost use mathlib.Core.Path.{_≡_};
+ghost use Prim.Native.Nat.{ℕ, _*_, _≤_, _<_};
+ghost use lib.ListN.{length, getD};
+ghost use Rattle.model.specs.Limits.{maxEvents};
+ghost use Rattle.edge_pair.specs.Offsets.{Ordered};
+ghost use Rattle.range_query.specs.Ladder.{LadderOf};
+ghost use Rattle.counting.specs.Kernels.{Leads, Right};
+use crate::method::Method;
+use edge_pair::EdgePair;
+use edge_pair::greatest_distance;
+use edge_pair::shortest_route;
+use model::less;
+use model::lesser;
+use model::value_at;
+use range_query::first_admitting;
+
+// The kernel of a method, or none: all pairs of the two runs are within reach from one threshold on and none before, or one threshold
+// parts them, with none within reach before it and all behind it.
+pub enum Kernel {
+    RangeQuery,
+    CountAugmentation,
+    NeighborSharing,
+    AtOnce(usize),
+    Parted(usize),
+}
+
+// Up to so many pairs are looked at one by one, whatever the thresholds are.
+const FEWEST_PAIRS: u64 = 4;
+
+// Up to so many are, where some threshold may part them.
+const FEW_PAIRS: u64 = 25;
+
+// Up to so many events of the second run are compared with the one threshold that parts the pairs.
+const FEW_TO_COMPARE: usize = 16;
+
+// More pairs are looked at one by one where twice the events of the second run are at most so many times the thresholds that may part
+// them. On one edge looking numbers up takes twice as long, so that the limit is twice as high.
+const TWICE_A_THRESHOLD: u64 = 3;
+
+const TWICE_A_THRESHOLD_ON_ONE_EDGE: u64 = 6;
+
+// Else, on one edge, cursors are moved where all thresholds are at most so many times those that may part the pairs: at each of all
+// thresholds the cursors are moved over the whole run.
+const MOST_PARTING: u64 = 4;
+
+// Numbers of events are cut off here, above the limit on events, so that products of two fit.
+const MANY: u64 = 65536;
+
+// The number of pairs; no more than the square of MANY.
+pub(crate) fn pairs_of(a: usize, b: usize) -> u64
+    ensures { λ r. ⌜ (a ≤ maxEvents → b ≤ maxEvents → r ≡ a * b) ⌝ }
+{
+    lesser(a as u64, MANY) * lesser(b as u64, MANY)
+}
+
+// The limit for two edges, or for one edge with itself.
+fn twice_a_threshold(same: bool) -> u64
+    ensures { λ r. ⌜ r ≤ 6 ⌝ }
+{
+    if same {
+        TWICE_A_THRESHOLD_ON_ONE_EDGE
+    } else {
+        TWICE_A_THRESHOLD
+    }
+}
+
+// Looking at pairs one by one, moving cursors or looking numbers up, by how many of so many thresholds may part the pairs, from the one
+// at a place on.
+fn by_thresholds(
+    edges: EdgePair,
+    from: usize,
+    others: usize,
+    thresholds: usize,
+    ladder: &[u32],
+) -> Kernel
+    ensures { λ r. ⌜ ((ts : List ℕ) → Right ts edges r) ⌝ }
+{
+    let admits_all = first_admitting(ladder, greatest_distance(edges));
+    let to = lesser(admits_all as u64, thresholds as u64);
+    let between = lesser(less(to, from as u64), MANY);
+    if 2 * lesser(others as u64, MANY) <= twice_a_threshold(edges.same) * between {
+        return Kernel::RangeQuery;
+    }
+    if !edges.same {
+        return Kernel::CountAugmentation;
+    }
+    if thresholds as u64 <= MOST_PARTING * between {
+        return Kernel::NeighborSharing;
+    }
+    Kernel::CountAugmentation
+}
+
+// The threshold at a place admits so many metres, or there is none.
+fn is_next(metres: u64, place: usize, thresholds: &[u32]) -> bool
+    ensures { λ r. ⌜ (r ≡ true → place < length (now (thresholds .entry)) → metres ≤ getD (now (thresholds .entry)) place 0) ⌝ }
+{
+    if thresholds.len() <= place {
+        return true;
+    }
+    metres <= value_at(thresholds, place) as u64
+}
+
+// What should be fastest for two runs of so many events.
+fn cheapest(
+    edges: EdgePair,
+    events: usize,
+    others: usize,
+    thresholds: &[u32],
+    ladder: &[u32],
+) -> Kernel
+    ensures { λ r. ⌜ (Ordered (now (thresholds .entry)) → LadderOf (now (thresholds .entry)) (now (ladder .entry)) → Right (now (thresholds .entry)) edges r) ⌝ }
+{
+    let pairs = pairs_of(events, others);
+    if pairs <= FEWEST_PAIRS {
+        return Kernel::RangeQuery;
+    }
+    let far = greatest_distance(edges);
+    if far <= value_at(thresholds, 0) as u64 {
+        return Kernel::AtOnce(0);
+    }
+    let from = first_admitting(ladder, shortest_route(edges));
+    if thresholds.len() <= from {
+        return Kernel::AtOnce(from);
+    }
+    if far <= value_at(thresholds, from) as u64 {
+        return Kernel::AtOnce(from);
+    }
+    if others <= FEW_TO_COMPARE {
+        if is_next(far, from + 1, thresholds) {
+            return Kernel::Parted(from);
+        }
+    }
+    if pairs <= FEW_PAIRS {
+        return Kernel::RangeQuery;
+    }
+    by_thresholds(edges, from, others, thresholds.len(), ladder)
+}
+
+// The kernel of the method that is asked for.
+pub(crate) fn kernel_for(
+    method: Method,
+    edges: EdgePair,
+    events: usize,
+    others: usize,
+    thresholds: &[u32],
+    ladder: &[u32],
+) -> Kernel
+    ensures { λ r. ⌜ Leads method r ⌝ }
+    ensures { λ r. ⌜ (Ordered (now (thresholds .entry)) → LadderOf (now (thresholds .entry)) (now (ladder .entry)) → Right (now (thresholds .entry)) edges r) ⌝ }
+{
+    match method {
+        Method::RangeQuery => Kernel::RangeQuery,
+        Method::CountAugmentation => Kernel::CountAugmentation,
+        Method::NeighborSharing => Kernel::NeighborSharing,
+        Method::Cheapest => cheapest(edges, events, others, thresholds, ladder),
+    }
+}

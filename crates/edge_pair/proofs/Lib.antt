@@ -1,0 +1,2 @@
+-- The laws about totals, which the kernels cite.
+pub mod Laws

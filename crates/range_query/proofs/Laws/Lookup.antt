@@ -1,0 +1,169 @@
+-- What is looked up in a ladder is the number of the steps that do not admit so many metres.
+use mathlib.Core.Bool.{Bool, true, false, cond}
+use mathlib.Core.List.{List}
+use mathlib.Core.Path.{_≡_, sym, ap, ap₂, _∙_}
+use Prim.Native.Nat.{ℕ, suc, _+_, _-_, _/_, _%_, _^_, _≤_, _<_, min}
+use native.Mathlib.Decide.{ℕ-discrete, decLt}
+use native.Mathlib.Nat.{mod-eq-of-lt, mod-lt, one-le-pow}
+use native.Mathlib.Omega.{arith}
+use borrow.Author.Tests.{le-leb, lt-leb, lt-ltb, le-ltb, eq-eqb, ne-eqb}
+use lib.Dec.{eqb, leb, ltb}
+use lib.ListN.{length, getD}
+use Rattle.model.specs.Limits.{maxThresholds}
+use Rattle.range_query.specs.Ladder.{lastStep, shiftAt, mostAt, lastCell, shiftEnd, alone, greatestOf, shiftOf, capOf, cellOf, cellsOf, narrowed, byHalves, namedBy, byCell, bucketIn, Bracket, Level, Celled, LadderOf}
+use Rattle.range_query.specs.declared.lookup.Cells.{Cells}
+use Rattle.range_query.proofs.Laws.Cells.{last-cell, cell-to}
+
+-- what is read of a ladder
+module _ (ladder : List ℕ) {cells : Cells} (told : cells ≡ cellsOf ladder) where
+  pub read-shift : cells .shift ≡ shiftOf ladder
+  unfolding cellsOf
+  read-shift = ap (λ (c : Cells). c .shift) told
+
+  pub shift-to : cells .shift < shiftEnd
+  shift-to = rw read-shift (mod-lt (getD ladder shiftAt 0) (omega arith))
+
+  pub read-lone : cells .lone ≡ eqb (getD ladder mostAt 0) alone
+  unfolding cellsOf
+  read-lone = ap (λ (c : Cells). c .lone) told
+
+  pub read-greatest : cells .greatest ≡ greatestOf ladder
+  unfolding cellsOf
+  read-greatest = ap (λ (c : Cells). c .greatest) told
+
+  read-cap : cells .cap ≡ capOf (greatestOf ladder) (2 ^ shiftOf ladder)
+  unfolding cellsOf
+  read-cap = ap (λ (c : Cells). c .cap) told
+
+  -- the last cell, and the cell of d, which is in the list
+  pub last-is : {last : ℕ} → last ≡ cells .cap / 2 ^ cells .shift → last ≡ capOf (greatestOf ladder) (2 ^ shiftOf ladder) / 2 ^ shiftOf ladder
+  last-is e = e ∙ ap₂ (λ (m n : ℕ). m / 2 ^ n) read-cap read-shift
+
+  pub cell-is : {l r : ℕ} (d : ℕ) → l ≡ min d (cells .cap) → r ≡ l / 2 ^ cells .shift → r ≡ cellOf (greatestOf ladder) (2 ^ shiftOf ladder) d
+  unfolding cellOf
+  cell-is d e f = f ∙ ap₂ (λ (m n : ℕ). m / 2 ^ n) (e ∙ ap (λ (m : ℕ). min d m) read-cap) read-shift
+
+pub cell-listed : (ladder : List ℕ) (d : ℕ) → cellOf (greatestOf ladder) (2 ^ shiftOf ladder) d ≤ lastCell
+cell-listed ladder d =
+    omega (arith, cell-to (greatestOf ladder) (2 ^ shiftOf ladder) (one-le-pow (shiftOf ladder) 2 (omega arith)) d, last-cell (greatestOf ladder) (2 ^ shiftOf ladder) (one-le-pow (shiftOf ladder) 2 (omega arith)))
+
+-- b is the number of steps that do not admit d
+pub record Bucket (ladder : List ℕ) (d b : ℕ) : Type 0 where
+  pub admits : (k : ℕ) → k < maxThresholds → leb b k ≡ leb d (getD ladder k 0)
+
+-- what is taken or not is at most all
+taken-to : (b : Bool) (n : ℕ) → cond b n 0 ≤ n
+taken-to true n = omega arith
+taken-to false n = omega arith
+
+-- no more than the half is passed
+pub narrowed-to : (ladder : List ℕ) (d half pos : ℕ) → narrowed ladder d half pos ≤ pos + half
+unfolding narrowed
+narrowed-to ladder d half pos = omega (arith, taken-to (ltb (getD ladder (pos + half - 1) 0) d) half)
+
+module _ (ladder : List ℕ) (d : ℕ) where
+  -- all steps at most
+  halves-fit : byHalves ladder d ≤ maxThresholds
+  unfolding byHalves
+  halves-fit =
+      let by-32 = narrowed ladder d 32 0 in
+      let by-16 = narrowed ladder d 16 by-32 in
+      let by-8 = narrowed ladder d 8 by-16 in
+      let by-4 = narrowed ladder d 4 by-8 in
+      let by-2 = narrowed ladder d 2 by-4 in
+      let by-1 = narrowed ladder d 1 by-2 in
+      omega
+      (arith, narrowed-to ladder d 32 0, narrowed-to ladder d 16 by-32, narrowed-to ladder d 8 by-16, narrowed-to ladder d 4 by-8, narrowed-to ladder d 2 by-4, narrowed-to ladder d 1 by-2, narrowed-to ladder d 1 by-1)
+
+  cell-fits : byCell ladder d ≤ maxThresholds
+  unfolding byCell
+  cell-fits = go (decLt (greatestOf ladder) d)
+    where
+      named : namedBy ladder d % maxThresholds < maxThresholds
+      named = mod-lt (namedBy ladder d) (omega arith)
+
+      found : narrowed ladder d 1 (namedBy ladder d % maxThresholds) ≤ maxThresholds
+      found = omega (arith, narrowed-to ladder d 1 (namedBy ladder d % maxThresholds), named)
+
+      go : Dec (greatestOf ladder < d) → cond (ltb (greatestOf ladder) d) maxThresholds (narrowed ladder d 1 (namedBy ladder d % maxThresholds)) ≤ maxThresholds
+      go (yes p) = rw (lt-ltb (greatestOf ladder) d p) (omega arith)
+      go (no p) = rw (le-ltb (greatestOf ladder) d (omega arith)) found
+
+  pub bucket-fits : bucketIn ladder d ≤ maxThresholds
+  unfolding bucketIn
+  bucket-fits = go (ℕ-discrete (getD ladder mostAt 0) alone)
+    where
+      go : Dec (getD ladder mostAt 0 ≡ alone) → bucketIn ladder d ≤ maxThresholds
+      go (yes p) = rw (eq-eqb (getD ladder mostAt 0) alone p) cell-fits
+      go (no p) = rw (ne-eqb (getD ladder mostAt 0) alone p) halves-fit
+
+  -- before any step is looked at
+  bracket-all : Bracket ladder d 0 maxThresholds
+  bracket-all = record { fits = omega arith; passed = λ k h. omega arith; ahead = λ k h l. omega arith }
+
+  -- no step left to look at
+  bracket-found : {pos : ℕ} → Bracket ladder d pos 0 → Bucket ladder d pos
+  bracket-found {pos} w = record { admits = λ k h. go k h (decLt k pos) }
+    where
+      go : (k : ℕ) → k < maxThresholds → Dec (k < pos) → leb pos k ≡ leb d (getD ladder k 0)
+      go k h (yes p) = lt-leb pos k p ∙ sym (lt-leb d (getD ladder k 0) (w .passed k p))
+      go k h (no p) = le-leb pos k (omega arith) ∙ sym (le-leb d (getD ladder k 0) (w .ahead k (omega arith) h))
+
+module _ {ladder : List ℕ} (up : Level ladder) (d : ℕ) where
+  -- the last of the first half steps passed or not
+  bracket-half : {pos : ℕ} (half rest : ℕ) → 1 ≤ half → half ≤ suc rest → Bracket ladder d pos (half + rest) → Bracket ladder d (narrowed ladder d half pos) rest
+  unfolding narrowed
+  bracket-half {pos} half rest some few w = go (decLt (getD ladder (pos + half - 1) 0) d)
+    where
+      go : Dec (getD ladder (pos + half - 1) 0 < d) → Bracket ladder d (pos + cond (ltb (getD ladder (pos + half - 1) 0) d) half 0) rest
+      go (yes p) =
+          rw (lt-ltb (getD ladder (pos + half - 1) 0) d p)
+          (record {
+            fits = omega (arith, w .fits);
+            passed = λ k h. omega (arith, up .level k (pos + half - 1) (omega arith) (omega (arith, w .fits)));
+            ahead = λ k h l. w .ahead k (omega arith) l;
+          })
+      go (no p) =
+          rw (le-ltb (getD ladder (pos + half - 1) 0) d (omega arith))
+          (record {
+            fits = omega (arith, w .fits);
+            passed = λ k h. w .passed k (omega arith);
+            ahead = λ k h l. omega (arith, up .level (pos + half - 1) k (omega arith) l);
+          })
+
+  halves-bucket : Bucket ladder d (byHalves ladder d)
+  unfolding byHalves
+  halves-bucket =
+      let by-32 = bracket-half 32 32 (omega arith) (omega arith) (bracket-all ladder d) in
+      let by-16 = bracket-half 16 16 (omega arith) (omega arith) by-32 in
+      let by-8 = bracket-half 8 8 (omega arith) (omega arith) by-16 in
+      let by-4 = bracket-half 4 4 (omega arith) (omega arith) by-8 in
+      let by-2 = bracket-half 2 2 (omega arith) (omega arith) by-4 in
+      let by-1 = bracket-half 1 1 (omega arith) (omega arith) by-2 in
+      bracket-found ladder d (bracket-half 1 0 (omega arith) (omega arith) by-1)
+
+  cell-bucket : Celled ladder → Bucket ladder d (byCell ladder d)
+  unfolding byCell
+  cell-bucket cells = go (decLt (greatestOf ladder) d)
+    where
+      go : Dec (greatestOf ladder < d) → Bucket ladder d (cond (ltb (greatestOf ladder) d) maxThresholds (narrowed ladder d 1 (namedBy ladder d % maxThresholds)))
+      go (yes p) =
+          rw (lt-ltb (greatestOf ladder) d p)
+          (record {
+            admits = λ k l. lt-leb maxThresholds k l ∙ sym (lt-leb d (getD ladder k 0) (omega (arith, up .level k lastStep (omega arith) (omega arith))));
+          })
+      go (no p) =
+          let named = cells .names d (omega arith) in
+          let is : namedBy ladder d % maxThresholds ≡ namedBy ladder d = mod-eq-of-lt (omega (arith, named .fits)) in
+          rw (le-ltb (greatestOf ladder) d (omega arith), is)
+          (bracket-found ladder d (bracket-half 1 0 (omega arith) (omega arith) named))
+
+-- in the ladder of so many thresholds
+pub bucket-right : {ts ladder : List ℕ} → LadderOf ts ladder → (d k : ℕ) → k < length ts → leb (bucketIn ladder d) k ≡ leb d (getD ts k 0)
+unfolding bucketIn
+bucket-right {ts} {ladder} w d k h =
+    rw (← w .at k h) (go (ℕ-discrete (getD ladder mostAt 0) alone) .admits k (omega (arith, w .few)))
+  where
+    go : Dec (getD ladder mostAt 0 ≡ alone) → Bucket ladder d (bucketIn ladder d)
+    go (yes p) = rw (eq-eqb (getD ladder mostAt 0) alone p) (cell-bucket (w .level) d (w .celled p))
+    go (no p) = rw (ne-eqb (getD ladder mostAt 0) alone p) (halves-bucket (w .level) d)

@@ -1,0 +1,43 @@
+-- The steps are spread, the cells are filled, and the number of steps of one is told.
+use mathlib.Core.Path.{_∙_, refl, sym}
+use native.Mathlib.Omega.{arith}
+use Rattle.range_query.proofs.Laws.Ladder.{cells-long, spread-long, all-spread}
+use borrow.Author.Needs.{needs}
+use Rattle.range_query.proofs.spreading.spread.Statement.{statement}
+use Rattle.range_query.proofs.spreading.spread.Tie as tie
+
+returns : tie.Need-returns
+returns c = (refl, λ e. absurd (c .if1 .taken e))
+
+returns-2 : tie.Need-returns-2
+returns-2 c = (refl, λ e some. absurd (omega (arith, c .if2 .taken)))
+
+returns-3 : tie.Need-returns-3
+returns-3 c = (refl, λ e some few. absurd (omega (arith, c .if3 .taken)))
+
+spread-steps-requires : tie.Need-spread-steps-requires
+spread-steps-requires c κs = (omega (arith, c .before .before .if2 .left), c .before .before .before .if1 .left)
+
+least-gap-requires : tie.Need-least-gap-requires
+least-gap-requires c κs = search needs
+
+shift-within-requires : tie.Need-shift-within-requires
+shift-within-requires c κs = search needs
+
+slice-write-ladder : tie.Need-slice-write-ladder
+slice-write-ladder c = omega (arith, c .before .before .before .before .spread-steps .ensures .long)
+
+fill-cells-requires : tie.Need-fill-cells-requires
+fill-cells-requires c κs = search needs
+
+slice-write-ladder-2 : tie.Need-slice-write-ladder-2
+slice-write-ladder-2 c = omega (arith, cells-long _ _ (c .before .before .before .before .before .before .before .before .spread-steps .ensures) (c .before .before .fill-cells .ensures))
+
+same-length : tie.Need-same-length
+same-length c = spread-long _ _ (c .before .before .before .before .before .before .before .before .spread-steps .ensures) (c .before .before .fill-cells .ensures) ∙ sym (c .before .before .before .before .before .before .before .before .before .before .before .before .if1 .left)
+
+returns-4 : tie.Need-returns-4
+returns-4 c = (spread-long _ _ (c .before .before .before .before .before .before .before .before .spread-steps .ensures) (c .before .before .fill-cells .ensures) ∙ sym (c .before .before .before .before .before .before .before .before .before .before .before .before .if1 .left), λ e some few rising. all-spread _ _ (c .before .before .before .before .before .before .before .before .spread-steps .ensures) (c .before .before .fill-cells .ensures) some few (λ k. c .before .before .before .before .before .before .before .before .before .before .before .before .before .before .shared-slice-known .given k .fits) rising)
+
+pub spread-spec : {M : Type 1} → statement M
+spread-spec = tie.close (tie.spec returns returns-2 returns-3 spread-steps-requires least-gap-requires shift-within-requires slice-write-ladder fill-cells-requires slice-write-ladder-2 same-length returns-4)

@@ -1,0 +1,146 @@
+// The first step of a ladder that admits so many metres, looked up by its cell or by halving, with no branch on what is found.
+ghost use mathlib.Core.Bool.{cond};
+ghost use mathlib.Core.List.{List};
+ghost use mathlib.Core.Path.{_≡_};
+ghost use Prim.Native.Nat.{ℕ, _+_, _/_, _^_, _≤_, _<_};
+ghost use lib.Dec.{leb, ltb};
+ghost use lib.ListN.{length, getD};
+ghost use Rattle.model.specs.Limits.{maxThresholds};
+ghost use Rattle.range_query.specs.Ladder.{shiftEnd, ladderLength, capOf, cellsOf, narrowed, byHalves, byCell, bucketIn, LadderOf};
+use model::Thresholds;
+use model::lesser;
+
+// The thresholds are spread over as many steps as there may be thresholds.
+pub const STEPS: usize = Thresholds::MAX_THRESHOLDS;
+
+// The step with the greatest threshold.
+pub const LAST_STEP: usize = STEPS - 1;
+
+// Behind the steps stand a shift, the number of steps of a cell, and a cell for each 2^shift metres up to the greatest threshold, the
+// last one without end: the number of its step. Where a cell cannot do with one step there are none.
+pub const SHIFT_AT: usize = STEPS;
+
+pub const MOST_AT: usize = SHIFT_AT + 1;
+
+pub const FIRST_CELL: usize = MOST_AT + 1;
+
+pub const CELLS: usize = 8192;
+
+pub const LADDER: usize = FIRST_CELL + CELLS;
+
+// Cells have one step each.
+pub const ALONE: u32 = 1;
+
+// A cell is of 2^31 metres at most.
+pub const SHIFT_END: u32 = 32;
+
+// What is read of a ladder once: whether there are cells of one step each, their shift, where the last one starts (or the greatest
+// threshold where that comes first), and the greatest threshold.
+pub struct Cells {
+    pub lone: bool,
+    pub shift: u32,
+    pub cap: u64,
+    pub greatest: u64,
+}
+
+// The metres of a cell.
+pub(crate) fn width_of(shift: u32) -> u64
+    requires { ⌜ shift < shiftEnd ⌝ }
+    ensures { λ r. ⌜ (r ≡ 2 ^ shift) × (1 ≤ r) × (r ≤ 2147483648) ⌝ }
+{
+    1u64 << shift
+}
+
+// The start of the last cell, or the greatest threshold where that comes first.
+pub(crate) fn cap_of(greatest: u64, width: u64) -> u64
+    requires { ⌜ width ≤ 2147483648 ⌝ }
+    ensures { λ r. ⌜ r ≡ capOf greatest width ⌝ }
+{
+    lesser(greatest, (CELLS as u64 - 1) * width)
+}
+
+// The cell of 2^shift metres that so many metres lie in.
+pub(crate) fn cell_of(metres: u64, shift: u32) -> usize
+    requires { ⌜ shift < shiftEnd ⌝ }
+    ensures { λ r. ⌜ r ≡ metres / 2 ^ shift ⌝ }
+{
+    (metres >> shift) as usize
+}
+
+// What is read of a ladder.
+pub(crate) fn read_cells(ladder: &[u32]) -> Cells
+    requires { ⌜ length (now ladder) ≡ ladderLength ⌝ }
+    ensures { λ r. ⌜ r ≡ cellsOf (now (ladder .entry)) ⌝ }
+{
+    let shift = ladder[SHIFT_AT] % SHIFT_END;
+    let greatest = ladder[LAST_STEP] as u64;
+    let cap = cap_of(greatest, width_of(shift));
+    Cells {
+        lone: ladder[MOST_AT] == ALONE,
+        shift,
+        cap,
+        greatest,
+    }
+}
+
+// So many steps are passed if the last of them does not admit d.
+fn passed(step: u32, d: u64, half: usize) -> usize
+    ensures { λ r. ⌜ r ≡ cond (ltb step d) half 0 ⌝ }
+{
+    if (step as u64) < d { half } else { 0 }
+}
+
+// Halves the steps among which the first that admits d is looked for.
+fn narrow(ladder: &[u32], d: u64, half: usize, pos: usize) -> usize
+    requires { ⌜ (length (now ladder) ≡ ladderLength) × (1 ≤ half) × (pos + half ≤ maxThresholds) ⌝ }
+    ensures { λ r. ⌜ (r ≡ narrowed (now (ladder .entry)) d half pos) × (r ≤ pos + half) ⌝ }
+{
+    pos + passed(ladder[pos + half - 1], d, half)
+}
+
+// The number of steps that do not admit d.
+fn by_halves(ladder: &[u32], d: u64) -> usize
+    requires { ⌜ length (now ladder) ≡ ladderLength ⌝ }
+    ensures { λ r. ⌜ r ≡ byHalves (now (ladder .entry)) d ⌝ }
+{
+    let by_32 = narrow(ladder, d, 32, 0);
+    let by_16 = narrow(ladder, d, 16, by_32);
+    let by_8 = narrow(ladder, d, 8, by_16);
+    let by_4 = narrow(ladder, d, 4, by_8);
+    let by_2 = narrow(ladder, d, 2, by_4);
+    let by_1 = narrow(ladder, d, 1, by_2);
+    narrow(ladder, d, 1, by_1)
+}
+
+// The same where cells have one step each: only that of the cell of d is looked at.
+fn by_cell(ladder: &[u32], cells: Cells, d: u64) -> usize
+    requires { ⌜ (length (now ladder) ≡ ladderLength) × (cells ≡ cellsOf (now ladder)) ⌝ }
+    ensures { λ r. ⌜ r ≡ byCell (now (ladder .entry)) d ⌝ }
+{
+    let cell = cell_of(lesser(d, cells.cap), cells.shift);
+    let step = ladder[FIRST_CELL + cell] as usize % STEPS;
+    let found = narrow(ladder, d, 1, step);
+    if cells.greatest < d { STEPS } else { found }
+}
+
+// The same by what was read of the ladder.
+pub(crate) fn bucket(ladder: &[u32], cells: Cells, d: u64) -> usize
+    requires { ⌜ (length (now ladder) ≡ ladderLength) × (cells ≡ cellsOf (now ladder)) ⌝ }
+    ensures { λ r. ⌜ r ≡ bucketIn (now (ladder .entry)) d ⌝ }
+{
+    if cells.lone {
+        return by_cell(ladder, cells, d);
+    }
+    by_halves(ladder, d)
+}
+
+// The number of steps that do not admit so many metres; that of all steps if the list is not as long as a ladder.
+pub fn first_admitting(ladder: &[u32], metres: u64) -> usize
+    ensures { λ r. ⌜ (length (now (ladder .entry)) ≡ ladderLength → r ≡ bucketIn (now (ladder .entry)) metres) × (r ≤ maxThresholds) × ((ts : List ℕ) → LadderOf ts (now (ladder .entry)) → (k : ℕ) → k < length ts → leb r k ≡ leb metres (getD ts k 0)) ⌝ }
+{
+    if ladder.len() != LADDER {
+        return STEPS;
+    }
+    let cells = read_cells(ladder);
+    bucket(ladder, cells, metres)
+}

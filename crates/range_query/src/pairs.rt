@@ -1,0 +1,83 @@
+// The pairs of two runs, each counted from the first threshold on that admits its metres.
+ghost use mathlib.Core.List.{List};
+ghost use mathlib.Core.Path.{_≡_};
+ghost use Prim.Native.Nat.{ℕ, _+_, _*_, _≤_};
+ghost use lib.Dec.{leb};
+ghost use lib.ListN.{length, getD};
+ghost use Rattle.model.specs.Counting.{countIf};
+ghost use Rattle.model.specs.Limits.{maxThresholds};
+ghost use Rattle.model.specs.Location.{at-first, at-second};
+ghost use Rattle.edge_pair.specs.Totals.{Added};
+ghost use Rattle.edge_pair.specs.Ways.{far, toEnd};
+ghost use Rattle.edge_pair.specs.Within.{reachedPairs};
+ghost use Rattle.range_query.specs.Ladder.{ladderLength, cellsOf, bucketIn, LadderOf};
+ghost use Rattle.range_query.specs.Metres.{metresBetween, tallied};
+use crate::lookup::Cells;
+use crate::lookup::LADDER;
+use crate::lookup::bucket;
+use crate::lookup::read_cells;
+use edge_pair::EdgePair;
+use edge_pair::change_from;
+use edge_pair::to_end;
+use model::apart;
+use model::equals_end;
+use model::less;
+use model::lesser;
+
+// To an offset of the second edge, by its first end or by its second, or along it where the two edges are one.
+pub(crate) fn meet(edges: EdgePair, p: u64, q: u64, x: u32, y: u32) -> u64
+    requires { ⌜ (p ≤ far + far) × (q ≤ far + far) × (p ≡ toEnd edges at-first x) × (q ≡ toEnd edges at-second x) ⌝ }
+    ensures { λ r. ⌜ r ≡ metresBetween edges x y ⌝ }
+{
+    let by_first = p + y as u64;
+    let by_second = q + less(edges.length2 as u64, y as u64);
+    let by_ends = lesser(by_first, by_second);
+    if edges.same {
+        lesser(by_ends, apart(x as u64, y as u64))
+    } else {
+        by_ends
+    }
+}
+
+// Counts the pairs of so many events at one offset of the first edge with those of a run on the second, each from the first threshold
+// on that admits its metres.
+fn add_row(
+    edges: EdgePair,
+    x: u32,
+    many: u64,
+    ys: &[u32],
+    ladder: &[u32],
+    cells: Cells,
+    totals: &mut [u64],
+)
+    requires { ⌜ (length (now ladder) ≡ ladderLength) × (cells ≡ cellsOf (now ladder)) ⌝ }
+    ensures { λ _. ⌜ Added maxThresholds (λ k. many * countIf (λ y. leb (bucketIn (now (ladder .entry)) (metresBetween edges x y)) k) (now (ys .entry))) (now (totals .entry)) (now (totals .exit)) ⌝ }
+{
+    let p = to_end(edges, x, true);
+    let q = to_end(edges, x, false);
+    let mut j = 0;
+    while j < ys.len() {
+        let metres = meet(edges, p, q, x, ys[j]);
+        let step = bucket(ladder, cells, metres);
+        change_from(totals, step, 0, many);
+        j += 1;
+    }
+}
+
+// Adds to the total at each threshold how many ordered pairs of an event of a run on the first edge and one of a run on the second lie
+// within it. Nothing is added if the ladder lent is not as long as one.
+pub fn add_pairs(edges: EdgePair, xs: &[u32], ys: &[u32], ladder: &[u32], totals: &mut [u64])
+    ensures { λ _. ⌜ (length (now (ladder .entry)) ≡ ladderLength → Added maxThresholds (tallied (now (ladder .entry)) edges (now (xs .entry)) (now (ys .entry))) (now (totals .entry)) (now (totals .exit))) × ((ts : List ℕ) → LadderOf ts (now (ladder .entry)) → Added (length ts) (λ k. reachedPairs (getD ts k 0) edges (now (xs .entry)) (now (ys .entry))) (now (totals .entry)) (now (totals .exit))) ⌝ }
+{
+    if ladder.len() != LADDER {
+        return;
+    }
+    let cells = read_cells(ladder);
+    let mut i = 0;
+    while i < xs.len() {
+        let end = equals_end(xs, i);
+        let many = (end - i) as u64;
+        add_row(edges, xs[i], many, ys, ladder, cells, totals);
+        i = end;
+    }
+}

@@ -1,0 +1,142 @@
+// The ladder of a list of thresholds: spread over all steps, and a cell for each few metres.
+ghost use mathlib.Core.Bool.{true};
+ghost use mathlib.Core.Path.{_≡_};
+ghost use Prim.Native.Nat.{_≤_, _<_};
+ghost use lib.ListN.{length};
+ghost use Rattle.model.specs.Limits.{maxThresholds};
+ghost use Rattle.edge_pair.specs.Offsets.{Ordered};
+ghost use Rattle.range_query.specs.Ladder.{lastStep, ladderLength, Level, LadderOf};
+ghost use Rattle.range_query.specs.Spreading.{SpreadSteps, Skipped, Alone, CellEnd, CellsFilled};
+use crate::lookup::ALONE;
+use crate::lookup::FIRST_CELL;
+use crate::lookup::LADDER;
+use crate::lookup::LAST_STEP;
+use crate::lookup::MOST_AT;
+use crate::lookup::SHIFT_AT;
+use crate::lookup::STEPS;
+use crate::lookup::cell_of;
+use crate::lookup::read_cells;
+use crate::lookup::width_of;
+use model::apart;
+use model::lesser;
+
+// Spreads the thresholds over all steps: behind the greatest it is repeated.
+fn spread_steps(thresholds: &[u32], ladder: &mut [u32])
+    requires { ⌜ (1 ≤ length (now thresholds)) × (length (now ladder) ≡ ladderLength) ⌝ }
+    ensures { λ _. ⌜ SpreadSteps (now (thresholds .entry)) maxThresholds (now (ladder .exit)) ⌝ }
+{
+    let last = thresholds.len() - 1;
+    let mut k = 0;
+    while k < STEPS {
+        let place = lesser(k as u64, last as u64);
+        ladder[k] = thresholds[place as usize];
+        k += 1;
+    }
+}
+
+// The least difference of two neighbouring thresholds, and the greatest number where there is one threshold alone.
+fn least_gap(thresholds: &[u32]) -> u64 {
+    let mut gap: u64 = 4_294_967_295;
+    let mut k = 1;
+    while k < thresholds.len() {
+        gap = lesser(gap, apart(thresholds[k] as u64, thresholds[k - 1] as u64));
+        k += 1;
+    }
+    gap
+}
+
+// The greatest shift up to 31 whose power of two is not above a gap of at least 1.
+fn shift_within(gap: u64) -> u32 {
+    let mut shift = 0;
+    let mut rest = gap / 2;
+    while shift < 31 {
+        if rest == 0 {
+            return shift;
+        }
+        rest = rest / 2;
+        shift += 1;
+    }
+    shift
+}
+
+// The first step from number c on that is not below so many metres, the last at most.
+fn skip(ladder: &[u32], metres: u64, c: usize) -> usize
+    requires { ⌜ (length (now ladder) ≡ ladderLength) × (c ≤ lastStep) ⌝ }
+    ensures { λ r. ⌜ Skipped (now (ladder .entry)) metres c r ⌝ }
+{
+    let mut k = c;
+    while k < LAST_STEP {
+        if metres <= ladder[k] as u64 {
+            return k;
+        }
+        k += 1;
+    }
+    k
+}
+
+// True only if every step behind number c admits whatever lies before an end and within the greatest threshold.
+fn is_alone(ladder: &[u32], c: usize, end: u64) -> bool
+    requires { ⌜ (length (now ladder) ≡ ladderLength) × (c ≤ lastStep) ⌝ }
+    ensures { λ r. ⌜ (r ≡ true → Level (now (ladder .entry)) → Alone (now (ladder .entry)) c end) ⌝ }
+{
+    if c == LAST_STEP {
+        return true;
+    }
+    let next = ladder[c + 1];
+    if end <= next as u64 {
+        return true;
+    }
+    ladder[LAST_STEP] <= next
+}
+
+// The end of cell k: beyond the greatest threshold if it is the last one, else the start of the next.
+fn cell_end(k: usize, last: usize, next: u64, greatest: u64) -> u64
+    requires { ⌜ greatest < 4294967296 ⌝ }
+    ensures { λ r. ⌜ CellEnd k last next greatest r ⌝ }
+{
+    if k == last { greatest + 1 } else { next }
+}
+
+// Writes the cells by the steps and the shift: the number of steps of one, 0 where one step does not do.
+fn fill_cells(ladder: &mut [u32]) -> u32
+    requires { ⌜ length (now ladder) ≡ ladderLength ⌝ }
+    ensures { λ r. ⌜ CellsFilled (now (ladder .entry)) r (now (ladder .exit)) ⌝ }
+{
+    let cells = read_cells(ladder);
+    let width = width_of(cells.shift);
+    let last = cell_of(cells.cap, cells.shift);
+    let mut c = 0;
+    let mut start: u64 = 0;
+    let mut k = 0;
+    while k <= last {
+        c = skip(ladder, start, c);
+        let next = start + width;
+        let end = cell_end(k, last, next, cells.greatest);
+        if !is_alone(ladder, c, end) {
+            return 0;
+        }
+        ladder[FIRST_CELL + k] = c as u32;
+        start = next;
+        k += 1;
+    }
+    ALONE
+}
+
+// Makes the ladder of at most as many thresholds as there may be, in rising order: the steps, the shift, the number of steps of a cell
+// and the cells. Nothing is written if the list lent is not as long as a ladder.
+pub fn spread(thresholds: &[u32], ladder: &mut [u32])
+    ensures { λ _. ⌜ (length (now (ladder .exit)) ≡ length (now (ladder .entry))) × (length (now (ladder .entry)) ≡ ladderLength → 1 ≤ length (now (thresholds .entry)) → length (now (thresholds .entry)) ≤ maxThresholds → Ordered (now (thresholds .entry)) → LadderOf (now (thresholds .entry)) (now (ladder .exit))) ⌝ }
+{
+    if ladder.len() != LADDER {
+        return;
+    }
+    if thresholds.len() < 1 {
+        return;
+    }
+    if STEPS < thresholds.len() {
+        return;
+    }
+    spread_steps(thresholds, ladder);
+    ladder[SHIFT_AT] = shift_within(least_gap(thresholds));
+    ladder[MOST_AT] = fill_cells(ladder);
+}
