@@ -17,3 +17,5 @@ mod Turns
 mod Entries
 mod Verdicts
 mod Tables
+mod Short
+mod Relaxing

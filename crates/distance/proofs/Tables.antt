@@ -8,8 +8,8 @@ use native.Mathlib.Numerals.{add-one}
 use native.Mathlib.Omega.{arith}
 use borrow.Author.Tests.{eq-eqb, ne-eqb, eqb-true, le-leb, lt-leb, leb-true}
 use lib.Dec.{eqb}
-use lib.ListN.{length, getD, take, drop, take-append-drop, drop-of-length-le, length-append, length-drop}
-use lib.Seq.{length-take-le, take-at, drop-at, drop-drop}
+use lib.ListN.{length, getD, take, drop, take-append-drop, drop-of-length-le, length-append, length-drop, List·getD-append}
+use lib.Seq.{length-take-le, take-at, drop-at, drop-drop, getD-take, getD-drop}
 use Rattle.model.proofs.Laws.CheckParts.{lists-first}
 use Rattle.model.proofs.Laws.Checks.{network-accepted}
 use Rattle.model.proofs.Laws.Refusal.{both-accepted, unless-accepted, or-else-next, or-else-refused, unless-accepts, unless-refuses}
@@ -20,7 +20,11 @@ use Rattle.model.specs.Refusal.{orElse, unless, listsDiffer}
 use Rattle.model.specs.declared.check.Check.{Check}
 use Rattle.model.specs.declared.check.Check.the-variants.{Accepted, Refused}
 use Rattle.distance.specs.Answers.{distanceRow, tableRows, table, tableCheck, TableAnswered}
-use Rattle.distance.specs.Table.{Fillable}
+use Rattle.distance.specs.Table.{Fillable, RowsHold, RowsKnown, filledRow}
+use Rattle.distance.proofs.Laws.Rows.{in-rows, row-length, row-at}
+use Rattle.model.specs.Distance.{code}
+use Rattle.model.specs.NodeDistance.{boundedDistance}
+use native.Mathlib.Decide.{ℕ-discrete}
 use Rattle.model.proofs.Laws.Answer.{written-accepted}
 
 -- the square of a number of 32 bits
@@ -56,15 +60,106 @@ module _ (net : Network) (wanted rows : List ℕ) where
       let room = leb-true _ _ (unless-accepted _ listsDiffer 0 (both-accepted _ _ (both-accepted _ _ past-lists .1) .0)) in
       record { accepted = table-roomy same room ∙ e; wanted-length = same; room = room }
 
--- a row that is not wanted stays
-pub row-stays : {w : ℕ} (old new : List ℕ) → w ≡ 0 → old ≡ cond (eqb w 0) old new
-row-stays old new e = rw (eq-eqb _ _ e)
+-- the entry for the node of row k in the row of an earlier node y lies inside the table
+pub record EarlierEntry (net : Network) (wanted : List ℕ) (k y : ℕ) (rows : List ℕ) : Type 0 where
+  pub in-wanted : y < length wanted
+  pub inside : y * net .nodes + k < length rows
+  pub small : y * net .nodes + k < maxNodes * maxNodes
+  pub node : suc y ≤ net .nodes
+  pub few : net .nodes ≤ maxNodes
 
--- a wanted row is copied over the whole of the old one
-pub row-made : {w n : ℕ} (old : List ℕ) {from row new : List ℕ} → (w ≡ 0 → ⊥) → length old ≡ n → from ≡ row → new ≡ from ++ drop n old → new ≡ cond (eqb w 0) old row
-row-made {n = n} old {row = row} wanted long made copied =
-    rw (ne-eqb _ _ wanted)
-    (copied ∙ ap (λ (l : List ℕ). l ++ drop n old) made ∙ ap (λ (l : List ℕ). row ++ l) (drop-of-length-le old {i = n} (omega arith)) ∙ append-nil row)
+pub earlier-entry : {net : Network} {bound k y : ℕ} {wanted rows : List ℕ} → RowsKnown net bound wanted k rows → y < k → EarlierEntry net wanted k y rows
+earlier-entry {net} {k = k} {y} r h =
+    let few = network-accepted net (r .fits .accepted) .nodes-to in
+    let place = in-rows (net .nodes) (net .nodes) y k (omega (arith, r .in-rows)) (r .in-rows) in
+    record {
+      in-wanted = omega (arith, r .fits .wanted-length, r .in-rows);
+      inside = omega (arith, r .fits .room);
+      small = omega (arith, mul-le-mul {n₁ = net .nodes} {m₁ = net .nodes} {n₂ = maxNodes} {m₂ = maxNodes} few few);
+      node = omega (arith, r .in-rows);
+      few = few;
+    }
+
+-- the next row ends inside the table, at a small index
+pub record RowEnd (net : Network) (at : ℕ) (rows : List ℕ) : Type 0 where
+  pub inside : at + net .nodes ≤ length rows
+  pub small : at + net .nodes ≤ maxNodes * maxNodes
+
+pub row-end : {net : Network} {bound k at : ℕ} {wanted rows : List ℕ} → RowsKnown net bound wanted k rows → at ≡ k * net .nodes → RowEnd net at rows
+row-end {net} {k = k} r is =
+    let few = network-accepted net (r .fits .accepted) .nodes-to in
+    let next = mul-le-mul-right {m = suc k} {n = net .nodes} (net .nodes) (r .in-rows) in
+    record {
+      inside = omega (arith, suc-mul k (net .nodes), r .fits .room);
+      small = omega (arith, suc-mul k (net .nodes), mul-le-mul {n₁ = net .nodes} {m₁ = net .nodes} {n₂ = maxNodes} {m₂ = maxNodes} few few);
+    }
+
+module _ (net : Network) (bound : ℕ) (wanted : List ℕ) (k : ℕ) (rows : List ℕ) where
+  filled-is : filledRow net bound wanted k rows ≡ cond (eqb (getD wanted k 0) 0) (take (net .nodes) (drop (k * net .nodes) rows)) (distanceRow net bound (suc k))
+  unfolding filledRow
+  filled-is = refl
+
+  -- a row that is not wanted stays
+  row-kept : getD wanted k 0 ≡ 0 → filledRow net bound wanted k rows ≡ take (net .nodes) (drop (k * net .nodes) rows)
+  unfolding filledRow
+  row-kept e = rw (eq-eqb _ _ e)
+
+  row-found : (getD wanted k 0 ≡ 0 → ⊥) → filledRow net bound wanted k rows ≡ distanceRow net bound (suc k)
+  unfolding filledRow
+  row-found some = rw (ne-eqb _ _ some)
+
+  pub row-stays : {at : ℕ} → at ≡ k * net .nodes → getD wanted k 0 ≡ 0 → rows ≡ take at rows ++ (filledRow net bound wanted k rows ++ drop (at + net .nodes) rows)
+  row-stays {at} is e =
+      sym (take-append-drop at rows)
+      ∙ ap (λ (l : List ℕ). take at rows ++ l) (sym (take-append-drop (net .nodes) (drop at rows)) ∙ rw (drop-drop (net .nodes) at rows, row-kept e, is))
+
+  -- a wanted one is copied over the whole of the old one, m entries from at on
+  pub row-made : (at : ℕ) {m : ℕ} {from part : List ℕ} → m ≡ net .nodes → (getD wanted k 0 ≡ 0 → ⊥) → from ≡ distanceRow net bound (suc k) → at + net .nodes ≤ length rows → part ≡ from ++ drop (net .nodes) (take m (drop at rows)) → take at rows ++ (part ++ drop m (drop at rows)) ≡ take at rows ++ (filledRow net bound wanted k rows ++ drop (at + net .nodes) rows)
+  row-made at {m} {from} {part} is some made inside copied =
+      ap (λ (l : List ℕ). take at rows ++ l)
+      (ap (λ (l : List ℕ). l ++ drop m (drop at rows)) whole ∙ ap (λ (l : List ℕ). filledRow net bound wanted k rows ++ l) (ap (λ (i : ℕ). drop i (drop at rows)) is ∙ drop-drop (net .nodes) at rows))
+    where
+      short : length (take m (drop at rows)) ≤ net .nodes
+      short = omega (arith, length-take-le m (drop at rows) (rw length-drop (omega arith)))
+
+      whole : part ≡ filledRow net bound wanted k rows
+      whole =
+          copied
+          ∙ ap (λ (l : List ℕ). from ++ l) (drop-of-length-le (take m (drop at rows)) {i = net .nodes} short)
+          ∙ append-nil from ∙ made ∙ sym (row-found some)
+
+  filled-long : k * net .nodes + net .nodes ≤ length rows → length (filledRow net bound wanted k rows) ≡ net .nodes
+  filled-long inside = go (ℕ-discrete (getD wanted k 0) 0)
+    where
+      go : Dec (getD wanted k 0 ≡ 0) → length (filledRow net bound wanted k rows) ≡ net .nodes
+      go (yes e) = rw (row-kept e) (length-take-le (net .nodes) (drop (k * net .nodes) rows) (rw length-drop (omega arith)))
+      go (no e) = rw (row-found e) (row-length net bound (suc k))
+
+  -- one row more holds its distances
+  pub hold-next : RowsHold net bound wanted k rows → {at : ℕ} → at ≡ k * net .nodes → at + net .nodes ≤ length rows → RowsHold net bound wanted (k + 1) (take at rows ++ (filledRow net bound wanted k rows ++ drop (at + net .nodes) rows))
+  hold-next hold {at} is inside y v h l some = go (ℕ-discrete y k)
+    where
+      rest : List ℕ
+      rest = filledRow net bound wanted k rows ++ drop (at + net .nodes) rows
+
+      long : length (take at rows) ≡ at
+      long = length-take-le at rows (omega arith)
+
+      go : Dec (y ≡ k) → getD (take at rows ++ rest) (y * net .nodes + v) 0 ≡ code (boundedDistance net bound (suc y) (suc v))
+      go (yes e) =
+          ap (λ (j : ℕ). getD (take at rows ++ rest) (j * net .nodes + v) 0) e
+          ∙ ap (λ (j : ℕ). getD (take at rows ++ rest) (j + v) 0) (sym is)
+          ∙ sym (getD-drop at (take at rows ++ rest) v 0)
+          ∙ ap (λ (l : List ℕ). getD l v 0) (drop-at (take at rows) rest at long)
+          ∙ List·getD-append (filledRow net bound wanted k rows) _ 0 v (omega (arith, filled-long (omega arith)))
+          ∙ ap (λ (l : List ℕ). getD l v 0) (row-found (λ q. some (ap (λ (j : ℕ). getD wanted j 0) e ∙ q)))
+          ∙ row-at net bound (suc k) (suc v) (record { from-one = omega arith; to-nodes = omega arith })
+          ∙ ap (λ (j : ℕ). code (boundedDistance net bound (suc j) (suc v))) (sym e)
+      go (no e) =
+          let before = in-rows (net .nodes) k y v (omega arith) l in
+          List·getD-append (take at rows) rest 0 (y * net .nodes + v) (omega (arith, long))
+          ∙ getD-take at rows (y * net .nodes + v) 0 (omega arith)
+          ∙ hold y v (omega arith) l some
 
 -- the first k rows have been filled, up to index at; left rows are still to come
 pub record Filled (net : Network) (bound : ℕ) (wanted old : List ℕ) (k at : ℕ) (rows : List ℕ) : Type 0 where
@@ -75,24 +170,18 @@ pub record Filled (net : Network) (bound : ℕ) (wanted old : List ℕ) (k at : 
   pub so-far : table net bound wanted old ≡ take at rows ++ tableRows net bound wanted old (suc k) left
   pub rest : drop at rows ≡ drop at old
 
--- the next row ends inside the table, at a small index
-pub record RowEnd (net : Network) (at : ℕ) (rows : List ℕ) : Type 0 where
-  pub inside : at + net .nodes ≤ length rows
-  pub small : at + net .nodes ≤ maxNodes * maxNodes
-
 module _ (net : Network) (bound : ℕ) (wanted old : List ℕ) where
   pub fill-none : Filled net bound wanted old 0 0 old
   unfolding table
   fill-none = record { same-length = refl; at-is = omega arith; left = net .nodes; all = omega arith; so-far = refl; rest = refl }
 
-  -- where the next row ends
-  pub row-end : {k at : ℕ} {rows : List ℕ} → Filled net bound wanted old k at rows → Fillable net wanted old → k < net .nodes → RowEnd net at rows
-  row-end {k} f fits h =
-      let n = network-accepted net (fits .accepted) in
-      let next = mul-le-mul-right {m = suc k} {n = net .nodes} (net .nodes) h in
+  -- what the next row is filled by
+  pub fill-known : {k at : ℕ} {rows : List ℕ} → Fillable net wanted old → Filled net bound wanted old k at rows → RowsHold net bound wanted k rows → k < net .nodes → RowsKnown net bound wanted k rows
+  fill-known fits f hold h =
       record {
-        inside = omega (arith, f .at-is, f .same-length, suc-mul k (net .nodes), next, fits .room);
-        small = omega (arith, f .at-is, suc-mul k (net .nodes), next, mul-le-mul {n₁ = net .nodes} {m₁ = net .nodes} {n₂ = maxNodes} {m₂ = maxNodes} (n .nodes-to) (n .nodes-to));
+        fits = record { accepted = fits .accepted; wanted-length = fits .wanted-length; room = omega (arith, fits .room, f .same-length) };
+        in-rows = h;
+        hold = hold;
       }
 
   -- one row more
@@ -129,10 +218,12 @@ module _ (net : Network) (bound : ℕ) (wanted old : List ℕ) where
                 ∙ drop-drop (net .nodes) at old;
           }
 
-  -- the same as the row is lent: a part of m entries from at on
-  pub fill-part : {k at m : ℕ} {rows : List ℕ} (row : List ℕ) → m ≡ net .nodes → Filled net bound wanted old k at rows → k < net .nodes → at + net .nodes ≤ length rows → length row ≡ net .nodes → row ≡ cond (eqb (getD wanted k 0) 0) (take m (drop at rows)) (distanceRow net bound (k + 1)) → Filled net bound wanted old (k + 1) (at + net .nodes) (take at rows ++ (row ++ drop m (drop at rows)))
-  fill-part {k} {at} {m} {rows} row e f h inside long is =
-      rw (e, drop-drop (net .nodes) at rows) (fill-more row f h inside long (rw (e, add-one k) at is))
+  -- the next row as it is filled
+  pub fill-next : {k at : ℕ} {rows : List ℕ} → Filled net bound wanted old k at rows → k < net .nodes → at + net .nodes ≤ length rows → Filled net bound wanted old (k + 1) (at + net .nodes) (take at rows ++ (filledRow net bound wanted k rows ++ drop (at + net .nodes) rows))
+  fill-next {k} {at} {rows} f h inside =
+      fill-more (filledRow net bound wanted k rows) f h inside
+      (filled-long net bound wanted k rows (omega (arith, f .at-is)))
+      (rw (f .at-is) (filled-is net bound wanted k rows))
 
   -- all rows
   pub fill-all : {k at : ℕ} {rows : List ℕ} → Filled net bound wanted old k at rows → k ≡ net .nodes → rows ≡ table net bound wanted old ++ drop (net .nodes * net .nodes) old

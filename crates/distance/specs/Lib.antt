@@ -2,5 +2,6 @@
 pub mod Answers
 pub mod Arcs
 pub mod Keys
+pub mod Passes
 pub mod Search
 pub mod Table

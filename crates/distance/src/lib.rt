@@ -3,6 +3,7 @@ mod arcs;
 mod find;
 mod front;
 mod keys;
+mod passes;
 mod row;
 mod search;
 mod table;

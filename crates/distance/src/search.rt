@@ -183,7 +183,7 @@ fn clipped(entry: u32, bound: u32) -> u32
 }
 
 // Sets every entry beyond the bound to 0.
-fn clip(dist: &mut [u32], bound: u32)
+pub(crate) fn clip(dist: &mut [u32], bound: u32)
     ensures { λ _. ⌜ ((v : ℕ) → Clipped bound (getD (now (dist .entry)) v 0) (getD (now (dist .exit)) v 0)) ⌝ }
 {
     let mut v = 0;

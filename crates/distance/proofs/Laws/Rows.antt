@@ -1,7 +1,8 @@
 -- Rows of distances: one asked for with a node for a source and room for the answers is accepted, and what its entries are then.
 use mathlib.Core.List.{List, map}
 use mathlib.Core.Path.{_≡_, _∙_, ap}
-use Prim.Native.Nat.{ℕ, zero, suc, pred, _+_, _≤_, _<_}
+use Prim.Native.Nat.{ℕ, zero, suc, pred, _+_, _*_, _≤_, _<_}
+use native.Mathlib.Nat.{mul-le-mul-right, suc-mul}
 use native.Mathlib.Omega.{arith}
 use lib.ListN.{length, getD, length-map, List·getD-append}
 use Rattle.model.proofs.Laws.Answer.{written-is}
@@ -17,6 +18,12 @@ use Rattle.model.specs.declared.check.Check.{Check}
 use Rattle.model.specs.declared.check.Check.the-variants.{Accepted}
 use Rattle.distance.specs.Answers.{distanceRow, rowCheck, RowAnswered}
 use Rattle.distance.specs.Search.{Found}
+
+-- a place of a row, where n rows of m places stand one after the other
+pub in-rows : (m n j i : ℕ) → j < n → i < m → j * m + i < n * m
+in-rows m n j i h l =
+    let rows : suc j * m ≤ n * m = mul-le-mul-right m h in
+    omega (arith, suc-mul j m)
 
 module _ (net : Network) (bound source : ℕ) where
   -- a row has an entry for each node

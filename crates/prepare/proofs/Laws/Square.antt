@@ -2,18 +2,13 @@
 use mathlib.Core.List.{List}
 use mathlib.Core.Path.{_≡_}
 use Prim.Native.Nat.{ℕ, suc, pred, _+_, _-_, _*_, _≤_, _<_}
-use native.Mathlib.Nat.{mul-le-mul, mul-le-mul-right, suc-mul}
+use native.Mathlib.Nat.{mul-le-mul}
 use native.Mathlib.Numerals.{sub-one}
 use native.Mathlib.Omega.{arith}
+use Rattle.distance.proofs.Laws.Rows.{in-rows}
 use Rattle.model.specs.Limits.{maxNodes}
 use Rattle.model.specs.Network.{Network, IsNode}
 use Rattle.prepare.specs.EndTable.{EndTable, TableEntry}
-
--- a place of a row, where n rows of m places stand one after the other
-pub in-rows : (m n j i : ℕ) → j < n → i < m → j * m + i < n * m
-in-rows m n j i h l =
-    let rows : suc j * m ≤ n * m = mul-le-mul-right m h in
-    omega (arith, suc-mul j m)
 
 -- the entry of two nodes lies within a square table, which is no larger than the greatest one
 pub in-square : {nodes : ℕ} {table : List ℕ} {u v : ℕ} → TableEntry nodes table u v → (u - 1) * nodes + (v - 1) < nodes * nodes

@@ -8,60 +8,32 @@ use lib.ListN.{length}
 use Rattle.model.proofs.Laws.Checks.{network-accepted}
 use Rattle.model.specs.Network.{network}
 use Rattle.distance.proofs.Rooms.{ready}
-use Rattle.model.proofs.Laws.Pieces.{part-long}
-use Rattle.distance.proofs.Tables.{Filled, fill-none, row-end, fill-part, fill-all}
+use Rattle.distance.specs.Table.{RowsHold}
+use Rattle.distance.proofs.Tables.{Filled, fill-none, fill-known, fill-next, fill-all, row-end, hold-next}
 use Rattle.distance.proofs.table.fill_rows.Statement.{statement}
 use Rattle.distance.proofs.table.fill_rows.Tie as tie
 
 abbrev Inv-loop : tie.InvT-loop
-Inv-loop nodes firsts seconds lengths last next bound wanted dist₀ front₀ rows₀ n at₀ k₀ dist front rows at k =
-    (k ≤ n) × Filled (network nodes firsts seconds lengths) bound wanted rows₀ k at rows × (length dist ≡ length dist₀) × (length front ≡ length front₀)
+Inv-loop nodes firsts seconds lengths last next bound wanted dist₀ front₀ rows₀ n most₀ at₀ k₀ dist front rows most at k =
+    (k ≤ n) × Filled (network nodes firsts seconds lengths) bound wanted rows₀ k at rows × (length dist ≡ length dist₀) × (length front ≡ length front₀) × RowsHold (network nodes firsts seconds lengths) bound wanted k rows
 
 abbrev μ-loop : tie.MeasureT-loop
-μ-loop nodes firsts seconds lengths last next bound wanted dist₀ front₀ rows₀ n at₀ k₀ dist front rows at k =
+μ-loop nodes firsts seconds lengths last next bound wanted dist₀ front₀ rows₀ n most₀ at₀ k₀ dist front rows most at k =
     n - k
 
 loop-holds : tie.Need-loop-holds Inv-loop μ-loop
-loop-holds c = (search needs, fill-none _ _ _ _, refl, refl)
-
-add-source : tie.Need-add-source Inv-loop μ-loop
-add-source c = search needs
-
-cast-source : tie.Need-cast-source Inv-loop μ-loop
-cast-source c = search needs
-
-mul-fill-row : tie.Need-mul-fill-row Inv-loop μ-loop
-mul-fill-row c = search needs
-
-shared-slice-read-fill-row : tie.Need-shared-slice-read-fill-row Inv-loop μ-loop
-shared-slice-read-fill-row c = search needs
-
-add-fill-row : tie.Need-add-fill-row Inv-loop μ-loop
-add-fill-row c = omega (arith, row-end _ _ _ _ (c .before .before .before .before .loop .inv .1) (c .before .before .before .before .before .before .before .before .before .before .before .before .before .before .pre .0) (c .before .before .before .loop-test .taken))
-
-mul-fill-row-2 : tie.Need-mul-fill-row-2 Inv-loop μ-loop
-mul-fill-row-2 c = omega (arith, row-end _ _ _ _ (c .before .before .before .before .loop .inv .1) (c .before .before .before .before .before .before .before .before .before .before .before .before .before .before .pre .0) (c .before .before .before .loop-test .taken))
-
-sub-fill-row : tie.Need-sub-fill-row Inv-loop μ-loop
-sub-fill-row c = search needs
-
-part-fill-row-start : tie.Need-part-fill-row-start Inv-loop μ-loop
-part-fill-row-start c = search needs
-
-part-fill-row-end : tie.Need-part-fill-row-end Inv-loop μ-loop
-part-fill-row-end c = omega (arith, row-end _ _ _ _ (c .before .before .before .before .loop .inv .1) (c .before .before .before .before .before .before .before .before .before .before .before .before .before .before .pre .0) (c .before .before .before .loop-test .taken))
+loop-holds c = (search needs, fill-none _ _ _ _, refl, refl, λ y v h. absurd (omega arith))
 
 fill-row-requires : tie.Need-fill-row-requires Inv-loop μ-loop
 fill-row-requires c κs =
-    let start = c .before .before .before .before .before .before .before .before .before .before .before .before .before .before .before in
-    let here = c .before .before .before .before .before .loop in
-    let test = c .before .before .before .before .loop-test .taken in (
-      ready (network-accepted _ (start .pre .0 .accepted)) (record { from-one = omega arith; to-nodes = omega arith }) (omega (arith, start .pre .1 .dist-room, here .inv .2)) (omega (arith, start .pre .1 .front-room, here .inv .3)) (start .pre .1 .linked),
-      part-long (here .at) _ (here .rows) (row-end _ _ _ _ (here .inv .1) (start .pre .0) test .inside),
+    let start = c .before .before .before .before .before .before .before .before .before .before .before .before .before .before in
+    let here = c .before .before .before .before .loop in (
+      ready (network-accepted _ (start .pre .0 .accepted)) (record { from-one = omega arith; to-nodes = c .before .before .before .loop-test .taken }) (omega (arith, start .pre .1 .dist-room, here .inv .2)) (omega (arith, start .pre .1 .front-room, here .inv .3)) (start .pre .1 .linked),
+      (fill-known _ _ _ _ (start .pre .0) (here .inv .1) (here .inv .4) (c .before .before .before .loop-test .taken), here .inv .1 .at-is),
     )
 
 add-at : tie.Need-add-at Inv-loop μ-loop
-add-at c = omega (arith, row-end _ _ _ _ (c .before .before .before .before .before .before .before .before .before .before .before .before .loop .inv .1) (c .before .before .before .before .before .before .before .before .before .before .before .before .before .before .before .before .before .before .before .before .before .before .pre .0) (c .before .before .before .before .before .before .before .before .before .before .before .loop-test .taken))
+add-at c = omega (arith, row-end (fill-known _ _ _ _ (c .before .before .before .before .before .before .before .before .before .before .before .before .before .before .before .before .before .before .before .before .before .pre .0) (c .before .before .before .before .before .before .before .before .before .before .before .loop .inv .1) (c .before .before .before .before .before .before .before .before .before .before .before .loop .inv .4) (c .before .before .before .before .before .before .before .before .before .before .loop-test .taken)) (c .before .before .before .before .before .before .before .before .before .before .before .loop .inv .1 .at-is))
 
 add-k : tie.Need-add-k Inv-loop μ-loop
 add-k c = search needs
@@ -71,15 +43,16 @@ loop-less c = search needs
 
 loop-again : tie.Need-loop-again Inv-loop μ-loop
 loop-again c =
-    let start = c .before .before .before .before .before .before .before .before .before .before .before .before .before .before .before .before .before .before .before .before .before .before in
-    let here = c .before .before .before .before .before .before .before .before .before .before .before .before .loop in
-    let test = c .before .before .before .before .before .before .before .before .before .before .before .loop-test .taken in
+    let start = c .before .before .before .before .before .before .before .before .before .before .before .before .before .before .before .before .before .before .before .before .before in
+    let here = c .before .before .before .before .before .before .before .before .before .before .before .loop in
+    let test = c .before .before .before .before .before .before .before .before .before .before .loop-test .taken in
     let filled = c .before .before .before .before .before .before .fill-row in
-    let inside = row-end _ _ _ _ (here .inv .1) (start .pre .0) test .inside in (
+    let inside = row-end (fill-known _ _ _ _ (start .pre .0) (here .inv .1) (here .inv .4) test) (here .inv .1 .at-is) .inside in (
       omega arith,
-      fill-part _ _ _ _ {m = here .at + start .args .nodes - here .at} _ (omega arith) (here .inv .1) test inside (filled .kept .1 .1 .1 .1 .1 .1 .1 .1 .1 .1 .1 .0 ∙ part-long (here .at) _ (here .rows) inside) (filled .ensures),
-      filled .kept .1 .1 .1 .1 .1 .1 .1 .1 .1 .0 ∙ here .inv .2,
-      filled .kept .1 .1 .1 .1 .1 .1 .1 .1 .1 .1 .0 ∙ here .inv .3,
+      rw (filled .ensures) (fill-next _ _ _ _ (here .inv .1) test inside),
+      omega (arith, filled .kept, here .inv .2),
+      omega (arith, filled .kept, here .inv .3),
+      rw (filled .ensures) (hold-next _ _ _ _ _ (here .inv .4) (here .inv .1 .at-is) inside),
     )
 
 same-length : tie.Need-same-length Inv-loop μ-loop
@@ -101,15 +74,6 @@ fill-rows-spec =
     Inv-loop
     μ-loop
     loop-holds
-    add-source
-    cast-source
-    mul-fill-row
-    shared-slice-read-fill-row
-    add-fill-row
-    mul-fill-row-2
-    sub-fill-row
-    part-fill-row-start
-    part-fill-row-end
     fill-row-requires
     add-at
     add-k
