@@ -4,4 +4,5 @@ pub mod Filling
 pub mod Ladder
 pub mod Lookup
 pub mod Pairs
+pub mod Placing
 pub mod Within

@@ -9,19 +9,19 @@ use lib.ListN.{length, getD}
 use Rattle.model.specs.Limits.{maxThresholds}
 use Rattle.range_query.specs.declared.lookup.Cells.{Cells}
 
--- the places of the ladder: the step of the greatest threshold, behind the steps the shift and the number of steps of a cell, and
--- behind them the cells
+-- the places of the ladder: the step of the greatest threshold, behind the steps the shift and what the cells are, and behind
+-- them the cells
 abbrev pub lastStep : ℕ
 lastStep = maxThresholds - 1
 
 abbrev pub shiftAt : ℕ
 shiftAt = maxThresholds
 
-abbrev pub mostAt : ℕ
-mostAt = suc shiftAt
+abbrev pub kindAt : ℕ
+kindAt = suc shiftAt
 
 abbrev pub firstCell : ℕ
-firstCell = suc mostAt
+firstCell = suc kindAt
 
 abbrev pub cellCount : ℕ
 cellCount = 8192
@@ -36,9 +36,12 @@ ladderLength = firstCell + cellCount
 abbrev pub shiftEnd : ℕ
 shiftEnd = 32
 
--- cells have one step each
+-- what the cells are: of one step each, or one for each metre, which holds the bucket itself
 abbrev pub alone : ℕ
 alone = 1
+
+abbrev pub exact : ℕ
+exact = 2
 
 -- the greatest threshold, and the shift of the cells, which are of 2 ^ shift metres
 abbrev pub greatestOf : List ℕ → ℕ
@@ -59,7 +62,8 @@ cellOf greatest width d = min d (capOf greatest width) / width
 unfoldable pub cellsOf : List ℕ → Cells
 cellsOf ladder =
     record {
-      lone = eqb (getD ladder mostAt 0) alone;
+      exact = eqb (getD ladder kindAt 0) exact;
+      lone = eqb (getD ladder kindAt 0) alone;
       shift = shiftOf ladder;
       cap = capOf (greatestOf ladder) (2 ^ shiftOf ladder);
       greatest = greatestOf ladder;
@@ -83,9 +87,21 @@ unfoldable pub byCell : List ℕ → ℕ → ℕ
 byCell ladder d =
     cond (ltb (greatestOf ladder) d) maxThresholds (narrowed ladder d 1 (namedBy ladder d % maxThresholds))
 
--- the bucket of d: by its cell where cells have one step each
+-- the steps that do not admit d, by its cell where cells have one step each
+unfoldable pub bySteps : List ℕ → ℕ → ℕ
+bySteps ladder d = cond (eqb (getD ladder kindAt 0) alone) (byCell ladder d) (byHalves ladder d)
+
+-- what the cell of so many metres holds, where a cell is of one metre and the last one without end
+unfoldable pub placeIn : List ℕ → ℕ → ℕ
+placeIn ladder d = getD ladder (firstCell + min d lastCell) 0
+
+-- the steps that do not admit d, by what the cells are
+unfoldable pub foundIn : List ℕ → ℕ → ℕ
+foundIn ladder d = cond (eqb (getD ladder kindAt 0) exact) (placeIn ladder d) (bySteps ladder d)
+
+-- the bucket of d: that of all steps if none admits it
 unfoldable pub bucketIn : List ℕ → ℕ → ℕ
-bucketIn ladder d = cond (eqb (getD ladder mostAt 0) alone) (byCell ladder d) (byHalves ladder d)
+bucketIn ladder d = min (foundIn ladder d) maxThresholds
 
 -- the first step that admits d is among the n from place pos on, or comes right behind them
 pub record Bracket (ladder : List ℕ) (d pos n : ℕ) : Type 0 where
@@ -101,6 +117,11 @@ pub record Level (ladder : List ℕ) : Type 0 where
 pub record Celled (ladder : List ℕ) : Type 0 where
   pub names : (d : ℕ) → d ≤ greatestOf ladder → Bracket ladder d (namedBy ladder d) alone
 
+-- the cell of each metre holds its bucket, and the last one is beyond the greatest threshold
+pub record Placed (ladder : List ℕ) : Type 0 where
+  pub beyond : greatestOf ladder < lastCell
+  pub places : (d : ℕ) → d ≤ lastCell → Bracket ladder d (getD ladder (firstCell + d) 0) 0
+
 -- the thresholds are spread over the steps, and the cells are right
 pub record LadderOf (ts ladder : List ℕ) : Type 0 where
   pub long : length ladder ≡ ladderLength
@@ -108,4 +129,5 @@ pub record LadderOf (ts ladder : List ℕ) : Type 0 where
   pub at : (k : ℕ) → k < length ts → getD ladder k 0 ≡ getD ts k 0
   pub small : (k : ℕ) → k < length ts → getD ts k 0 < 4294967296
   pub level : Level ladder
-  pub celled : getD ladder mostAt 0 ≡ alone → Celled ladder
+  pub celled : getD ladder kindAt 0 ≡ alone → Celled ladder
+  pub placed : getD ladder kindAt 0 ≡ exact → Placed ladder

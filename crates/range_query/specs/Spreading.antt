@@ -1,20 +1,21 @@
 -- What the inner functions that make a ladder promise: cited by no public function.
 use mathlib.Core.List.{List}
 use mathlib.Core.Path.{_≡_}
-use Prim.Native.Nat.{ℕ, _-_, _≤_, _<_, min}
+use Prim.Native.Nat.{ℕ, _+_, _-_, _≤_, _<_, min}
 use lib.ListN.{length, getD}
 use Rattle.model.specs.Limits.{maxThresholds}
-use Rattle.range_query.specs.Ladder.{lastStep, mostAt, ladderLength, alone, greatestOf, Level, Celled}
+use Rattle.range_query.specs.Ladder.{kindAt, firstCell, lastCell, ladderLength, alone, exact, greatestOf, Bracket, Level, Celled, Placed}
 
 -- the first n steps are the thresholds, the greatest repeated behind them
 pub record SpreadSteps (ts : List ℕ) (n : ℕ) (ladder : List ℕ) : Type 0 where
   pub long : length ladder ≡ ladderLength
   pub at : (k : ℕ) → k < n → getD ladder k 0 ≡ getD ts (min k (length ts - 1)) 0
 
--- from step c on to step r all are below so many metres
-pub record Skipped (ladder : List ℕ) (metres c r : ℕ) : Type 0 where
+-- from step c on to step r all are below so many metres, and step r is not if it comes before an end
+pub record Skipped (ladder : List ℕ) (metres c end r : ℕ) : Type 0 where
   pub onward : c ≤ r
-  pub in-list : r ≤ lastStep
+  pub in-list : r ≤ end
+  pub stops : r < end → metres ≤ getD ladder r 0
   pub passed : (j : ℕ) → c ≤ j → j < r → getD ladder j 0 < metres
 
 -- every step behind number c admits what lies before an end and within the greatest threshold
@@ -29,9 +30,15 @@ pub record CellEnd (k last next greatest end : ℕ) : Type 0 where
 -- the steps and the shift are kept
 pub record StepsKept (old new : List ℕ) : Type 0 where
   pub long : length new ≡ length old
-  pub at : (k : ℕ) → k < mostAt → getD new k 0 ≡ getD old k 0
+  pub at : (k : ℕ) → k < kindAt → getD new k 0 ≡ getD old k 0
 
--- the cells are filled, if r says so, and are right where the steps do not fall
+-- the cells are filled, as r says, and are right where the steps do not fall
 pub record CellsFilled (old : List ℕ) (r : ℕ) (new : List ℕ) : Type 0 where
   pub kept : StepsKept old new
   pub celled : r ≡ alone → Level old → Celled new
+  pub placed : r ≡ exact → Level old → Placed new
+
+-- the cell of each metre holds its bucket, where the steps do not fall
+pub record PlacesFilled (old new : List ℕ) : Type 0 where
+  pub kept : StepsKept old new
+  pub places : Level old → (d : ℕ) → d ≤ lastCell → Bracket old d (getD new (firstCell + d) 0) 0

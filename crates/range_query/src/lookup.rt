@@ -6,7 +6,7 @@ ghost use Prim.Native.Nat.{ℕ, _+_, _/_, _^_, _≤_, _<_};
 ghost use lib.Dec.{leb, ltb};
 ghost use lib.ListN.{length, getD};
 ghost use Rattle.model.specs.Limits.{maxThresholds};
-ghost use Rattle.range_query.specs.Ladder.{shiftEnd, ladderLength, capOf, cellsOf, narrowed, byHalves, byCell, bucketIn, LadderOf};
+ghost use Rattle.range_query.specs.Ladder.{shiftEnd, ladderLength, capOf, cellsOf, narrowed, byHalves, byCell, bySteps, placeIn, foundIn, bucketIn, LadderOf};
 use model::Thresholds;
 use model::lesser;
 
@@ -16,13 +16,14 @@ pub const STEPS: usize = Thresholds::MAX_THRESHOLDS;
 // The step with the greatest threshold.
 pub const LAST_STEP: usize = STEPS - 1;
 
-// Behind the steps stand a shift, the number of steps of a cell, and a cell for each 2^shift metres up to the greatest threshold, the
-// last one without end: the number of its step. Where a cell cannot do with one step there are none.
+// Behind the steps stand a shift, what the cells are, and the cells. Where the greatest threshold is small there is a cell for each
+// metre, the last one without end: the number of steps that do not admit so many metres. Else there is a cell for each 2^shift metres up
+// to the greatest threshold, the last one without end: the number of its step. Where a cell cannot do with one step there are none.
 pub const SHIFT_AT: usize = STEPS;
 
-pub const MOST_AT: usize = SHIFT_AT + 1;
+pub const KIND_AT: usize = SHIFT_AT + 1;
 
-pub const FIRST_CELL: usize = MOST_AT + 1;
+pub const FIRST_CELL: usize = KIND_AT + 1;
 
 pub const CELLS: usize = 8192;
 
@@ -31,12 +32,18 @@ pub const LADDER: usize = FIRST_CELL + CELLS;
 // Cells have one step each.
 pub const ALONE: u32 = 1;
 
+// There is a cell for each metre.
+pub const EXACT: u32 = 2;
+
+pub const LAST_CELL: usize = CELLS - 1;
+
 // A cell is of 2^31 metres at most.
 pub const SHIFT_END: u32 = 32;
 
-// What is read of a ladder once: whether there are cells of one step each, their shift, where the last one starts (or the greatest
-// threshold where that comes first), and the greatest threshold.
+// What is read of a ladder once: whether there is a cell for each metre, whether there are cells of one step each, their shift, where
+// the last one starts (or the greatest threshold where that comes first), and the greatest threshold.
 pub struct Cells {
+    pub exact: bool,
     pub lone: bool,
     pub shift: u32,
     pub cap: u64,
@@ -75,8 +82,10 @@ pub(crate) fn read_cells(ladder: &[u32]) -> Cells
     let shift = ladder[SHIFT_AT] % SHIFT_END;
     let greatest = ladder[LAST_STEP] as u64;
     let cap = cap_of(greatest, width_of(shift));
+    let kind = ladder[KIND_AT];
     Cells {
-        lone: ladder[MOST_AT] == ALONE,
+        exact: kind == EXACT,
+        lone: kind == ALONE,
         shift,
         cap,
         greatest,
@@ -123,15 +132,35 @@ fn by_cell(ladder: &[u32], cells: Cells, d: u64) -> usize
     if cells.greatest < d { STEPS } else { found }
 }
 
-// The same by what was read of the ladder.
-pub(crate) fn bucket(ladder: &[u32], cells: Cells, d: u64) -> usize
+// The same by what was read of the ladder, where there is no cell for each metre.
+pub(crate) fn by_steps(ladder: &[u32], cells: Cells, d: u64) -> usize
     requires { ⌜ (length (now ladder) ≡ ladderLength) × (cells ≡ cellsOf (now ladder)) ⌝ }
-    ensures { λ r. ⌜ r ≡ bucketIn (now (ladder .entry)) d ⌝ }
+    ensures { λ r. ⌜ r ≡ bySteps (now (ladder .entry)) d ⌝ }
 {
     if cells.lone {
         return by_cell(ladder, cells, d);
     }
     by_halves(ladder, d)
+}
+
+// The same where there is a cell for each metre.
+pub(crate) fn place_in(ladder: &[u32], d: u64) -> usize
+    requires { ⌜ length (now ladder) ≡ ladderLength ⌝ }
+    ensures { λ r. ⌜ r ≡ placeIn (now (ladder .entry)) d ⌝ }
+{
+    let cell = lesser(d, LAST_CELL as u64) as usize;
+    ladder[FIRST_CELL + cell] as usize
+}
+
+// The same by what was read of the ladder.
+fn find(ladder: &[u32], cells: Cells, d: u64) -> usize
+    requires { ⌜ (length (now ladder) ≡ ladderLength) × (cells ≡ cellsOf (now ladder)) ⌝ }
+    ensures { λ r. ⌜ r ≡ foundIn (now (ladder .entry)) d ⌝ }
+{
+    if cells.exact {
+        return place_in(ladder, d);
+    }
+    by_steps(ladder, cells, d)
 }
 
 // The number of steps that do not admit so many metres; that of all steps if the list is not as long as a ladder.
@@ -142,5 +171,5 @@ pub fn first_admitting(ladder: &[u32], metres: u64) -> usize
         return STEPS;
     }
     let cells = read_cells(ladder);
-    bucket(ladder, cells, metres)
+    lesser(find(ladder, cells, metres) as u64, STEPS as u64) as usize
 }

@@ -10,11 +10,12 @@ ghost use Rattle.model.specs.Location.{at-first, at-second};
 ghost use Rattle.edge_pair.specs.Totals.{Added};
 ghost use Rattle.edge_pair.specs.Ways.{far, toEnd};
 ghost use Rattle.edge_pair.specs.Within.{reachedPairs};
-ghost use Rattle.range_query.specs.Ladder.{ladderLength, cellsOf, bucketIn, LadderOf};
+ghost use Rattle.range_query.specs.Ladder.{ladderLength, cellsOf, bySteps, placeIn, bucketIn, LadderOf};
 ghost use Rattle.range_query.specs.Metres.{metresBetween, tallied};
 use crate::lookup::Cells;
 use crate::lookup::LADDER;
-use crate::lookup::bucket;
+use crate::lookup::by_steps;
+use crate::lookup::place_in;
 use crate::lookup::read_cells;
 use edge_pair::EdgePair;
 use edge_pair::change_from;
@@ -40,7 +41,54 @@ pub(crate) fn meet(edges: EdgePair, p: u64, q: u64, x: u32, y: u32) -> u64
 }
 
 // Counts the pairs of so many events at one offset of the first edge with those of a run on the second, each from the first threshold
-// on that admits its metres.
+// on that admits its metres, where the ladder has a cell for each metre.
+fn add_row_by_places(
+    edges: EdgePair,
+    x: u32,
+    many: u64,
+    ys: &[u32],
+    ladder: &[u32],
+    totals: &mut [u64],
+)
+    requires { ⌜ length (now ladder) ≡ ladderLength ⌝ }
+    ensures { λ _. ⌜ Added maxThresholds (λ k. many * countIf (λ y. leb (placeIn (now (ladder .entry)) (metresBetween edges x y)) k) (now (ys .entry))) (now (totals .entry)) (now (totals .exit)) ⌝ }
+{
+    let p = to_end(edges, x, true);
+    let q = to_end(edges, x, false);
+    let mut j = 0;
+    while j < ys.len() {
+        let metres = meet(edges, p, q, x, ys[j]);
+        let step = place_in(ladder, metres);
+        change_from(totals, step, 0, many);
+        j += 1;
+    }
+}
+
+// The same where it has none.
+fn add_row_by_steps(
+    edges: EdgePair,
+    x: u32,
+    many: u64,
+    ys: &[u32],
+    ladder: &[u32],
+    cells: Cells,
+    totals: &mut [u64],
+)
+    requires { ⌜ (length (now ladder) ≡ ladderLength) × (cells ≡ cellsOf (now ladder)) ⌝ }
+    ensures { λ _. ⌜ Added maxThresholds (λ k. many * countIf (λ y. leb (bySteps (now (ladder .entry)) (metresBetween edges x y)) k) (now (ys .entry))) (now (totals .entry)) (now (totals .exit)) ⌝ }
+{
+    let p = to_end(edges, x, true);
+    let q = to_end(edges, x, false);
+    let mut j = 0;
+    while j < ys.len() {
+        let metres = meet(edges, p, q, x, ys[j]);
+        let step = by_steps(ladder, cells, metres);
+        change_from(totals, step, 0, many);
+        j += 1;
+    }
+}
+
+// The same for any ladder. There are two loops, for in a single one the compiler leaves the test whether the two edges are one.
 fn add_row(
     edges: EdgePair,
     x: u32,
@@ -53,14 +101,10 @@ fn add_row(
     requires { ⌜ (length (now ladder) ≡ ladderLength) × (cells ≡ cellsOf (now ladder)) ⌝ }
     ensures { λ _. ⌜ Added maxThresholds (λ k. many * countIf (λ y. leb (bucketIn (now (ladder .entry)) (metresBetween edges x y)) k) (now (ys .entry))) (now (totals .entry)) (now (totals .exit)) ⌝ }
 {
-    let p = to_end(edges, x, true);
-    let q = to_end(edges, x, false);
-    let mut j = 0;
-    while j < ys.len() {
-        let metres = meet(edges, p, q, x, ys[j]);
-        let step = bucket(ladder, cells, metres);
-        change_from(totals, step, 0, many);
-        j += 1;
+    if cells.exact {
+        add_row_by_places(edges, x, many, ys, ladder, totals);
+    } else {
+        add_row_by_steps(edges, x, many, ys, ladder, cells, totals);
     }
 }
 

@@ -6,12 +6,15 @@ ghost use lib.ListN.{length};
 ghost use Rattle.model.specs.Limits.{maxThresholds};
 ghost use Rattle.edge_pair.specs.Offsets.{Ordered};
 ghost use Rattle.range_query.specs.Ladder.{lastStep, ladderLength, Level, LadderOf};
-ghost use Rattle.range_query.specs.Spreading.{SpreadSteps, Skipped, Alone, CellEnd, CellsFilled};
+ghost use Rattle.range_query.specs.Spreading.{SpreadSteps, Skipped, Alone, CellEnd, CellsFilled, PlacesFilled};
 use crate::lookup::ALONE;
+use crate::lookup::CELLS;
+use crate::lookup::EXACT;
 use crate::lookup::FIRST_CELL;
+use crate::lookup::KIND_AT;
 use crate::lookup::LADDER;
+use crate::lookup::LAST_CELL;
 use crate::lookup::LAST_STEP;
-use crate::lookup::MOST_AT;
 use crate::lookup::SHIFT_AT;
 use crate::lookup::STEPS;
 use crate::lookup::cell_of;
@@ -59,13 +62,13 @@ fn shift_within(gap: u64) -> u32 {
     shift
 }
 
-// The first step from number c on that is not below so many metres, the last at most.
-fn skip(ladder: &[u32], metres: u64, c: usize) -> usize
-    requires { ⌜ (length (now ladder) ≡ ladderLength) × (c ≤ lastStep) ⌝ }
-    ensures { λ r. ⌜ Skipped (now (ladder .entry)) metres c r ⌝ }
+// The first step from number c on that is not below so many metres, or the end.
+fn skip(ladder: &[u32], metres: u64, c: usize, end: usize) -> usize
+    requires { ⌜ (length (now ladder) ≡ ladderLength) × (c ≤ end) × (end ≤ maxThresholds) ⌝ }
+    ensures { λ r. ⌜ Skipped (now (ladder .entry)) metres c end r ⌝ }
 {
     let mut k = c;
-    while k < LAST_STEP {
+    while k < end {
         if metres <= ladder[k] as u64 {
             return k;
         }
@@ -97,7 +100,7 @@ fn cell_end(k: usize, last: usize, next: u64, greatest: u64) -> u64
     if k == last { greatest + 1 } else { next }
 }
 
-// Writes the cells by the steps and the shift: the number of steps of one, 0 where one step does not do.
+// Writes cells of one step each by the steps and the shift, and tells so; 0 where one step does not do.
 fn fill_cells(ladder: &mut [u32]) -> u32
     requires { ⌜ length (now ladder) ≡ ladderLength ⌝ }
     ensures { λ r. ⌜ CellsFilled (now (ladder .entry)) r (now (ladder .exit)) ⌝ }
@@ -109,7 +112,7 @@ fn fill_cells(ladder: &mut [u32]) -> u32
     let mut start: u64 = 0;
     let mut k = 0;
     while k <= last {
-        c = skip(ladder, start, c);
+        c = skip(ladder, start, c, LAST_STEP);
         let next = start + width;
         let end = cell_end(k, last, next, cells.greatest);
         if !is_alone(ladder, c, end) {
@@ -122,8 +125,34 @@ fn fill_cells(ladder: &mut [u32]) -> u32
     ALONE
 }
 
-// Makes the ladder of at most as many thresholds as there may be, in rising order: the steps, the shift, the number of steps of a cell
-// and the cells. Nothing is written if the list lent is not as long as a ladder.
+// Writes a cell for each metre by the steps.
+fn fill_places(ladder: &mut [u32])
+    requires { ⌜ length (now ladder) ≡ ladderLength ⌝ }
+    ensures { λ _. ⌜ PlacesFilled (now (ladder .entry)) (now (ladder .exit)) ⌝ }
+{
+    let mut c = 0;
+    let mut k = 0;
+    while k < CELLS {
+        c = skip(ladder, k as u64, c, STEPS);
+        ladder[FIRST_CELL + k] = c as u32;
+        k += 1;
+    }
+}
+
+// Writes the cells, and tells what they are.
+fn fill(ladder: &mut [u32]) -> u32
+    requires { ⌜ length (now ladder) ≡ ladderLength ⌝ }
+    ensures { λ r. ⌜ CellsFilled (now (ladder .entry)) r (now (ladder .exit)) ⌝ }
+{
+    if (ladder[LAST_STEP] as usize) < LAST_CELL {
+        fill_places(ladder);
+        return EXACT;
+    }
+    fill_cells(ladder)
+}
+
+// Makes the ladder of at most as many thresholds as there may be, in rising order: the steps, the shift, what the cells are, and
+// the cells. Nothing is written if the list lent is not as long as a ladder.
 pub fn spread(thresholds: &[u32], ladder: &mut [u32])
     ensures { λ _. ⌜ (length (now (ladder .exit)) ≡ length (now (ladder .entry))) × (length (now (ladder .entry)) ≡ ladderLength → 1 ≤ length (now (thresholds .entry)) → length (now (thresholds .entry)) ≤ maxThresholds → Ordered (now (thresholds .entry)) → LadderOf (now (thresholds .entry)) (now (ladder .exit))) ⌝ }
 {
@@ -138,5 +167,5 @@ pub fn spread(thresholds: &[u32], ladder: &mut [u32])
     }
     spread_steps(thresholds, ladder);
     ladder[SHIFT_AT] = shift_within(least_gap(thresholds));
-    ladder[MOST_AT] = fill_cells(ladder);
+    ladder[KIND_AT] = fill(ladder);
 }

@@ -8,7 +8,7 @@ use native.Mathlib.Numerals.{add-one}
 use native.Mathlib.Omega.{arith}
 use lib.ListN.{length, getD, set, length-set}
 use lib.Seq.{getD-set-same, getD-set-other}
-use Rattle.range_query.specs.Ladder.{lastStep, shiftAt, mostAt, firstCell, ladderLength, alone, greatestOf, shiftOf, capOf, cellOf, namedBy, Bracket, Level, Celled}
+use Rattle.range_query.specs.Ladder.{lastStep, shiftAt, kindAt, firstCell, ladderLength, alone, greatestOf, shiftOf, capOf, cellOf, namedBy, Bracket, Level, Celled}
 use Rattle.range_query.specs.Spreading.{Skipped, Alone, CellEnd, StepsKept, CellsFilled}
 use Rattle.range_query.proofs.Laws.Cells.{last-cell, cell-to, in-cell}
 
@@ -35,14 +35,14 @@ skip-more ladder metres c k passed here j h l = go (decLt j k)
 pub kept-none : (old : List ℕ) → StepsKept old old
 kept-none old = record { long = refl; at = λ k h. refl }
 
-pub kept-set : {old new : List ℕ} (i v : ℕ) → mostAt ≤ i → StepsKept old new → StepsKept old (set new i v)
+pub kept-set : {old new : List ℕ} (i v : ℕ) → kindAt ≤ i → StepsKept old new → StepsKept old (set new i v)
 kept-set {old} {new} i v h w =
     record { long = length-set new i v ∙ w .long; at = λ k l. getD-set-other new i k v 0 (λ e. omega arith) ∙ w .at k l }
 
 pub level-kept : {old new : List ℕ} → StepsKept old new → Level old → Level new
 level-kept w up = record { level = λ j k h l. rw (w .at j (omega arith), w .at k (omega arith)) (up .level j k h l) }
 
-bracket-kept : {old new : List ℕ} {d pos n : ℕ} → StepsKept old new → Bracket old d pos n → Bracket new d pos n
+pub bracket-kept : {old new : List ℕ} {d pos n : ℕ} → StepsKept old new → Bracket old d pos n → Bracket new d pos n
 bracket-kept kept w =
     record {
       fits = w .fits;
@@ -98,7 +98,7 @@ filling-none old width last =
 
 -- cells of so many metres up to the last
 module _ {old : List ℕ} (width last : ℕ) (long : length old ≡ ladderLength) (some : 1 ≤ width) (last-is : last ≡ capOf (greatestOf old) width / width) where
-  pub filling-more : {new : List ℕ} {c c′ start k next greatest end : ℕ} → Filling old width last c start k new → k ≤ last → Skipped new start c c′ → next ≡ start + width → greatest ≡ greatestOf old → CellEnd k last next greatest end → (Level new → Alone new c′ end) → Filling old width last c′ next (k + 1) (set new (firstCell + k) c′)
+  pub filling-more : {new : List ℕ} {c c′ start k next greatest end : ℕ} → Filling old width last c start k new → k ≤ last → Skipped new start c lastStep c′ → next ≡ start + width → greatest ≡ greatestOf old → CellEnd k last next greatest end → (Level new → Alone new c′ end) → Filling old width last c′ next (k + 1) (set new (firstCell + k) c′)
   filling-more {new} {c} {c′} {start} {k} {next} {greatest} {end} w h skipped e g ends lone =
       record {
         begins = e ∙ (rw (add-one k) (ap (λ x. x + width) (w .begins) ∙ sym (suc-mul k width)));
@@ -126,7 +126,7 @@ module _ {old : List ℕ} (width last : ℕ) (long : length old ≡ ladderLength
   pub filling-done : {new : List ℕ} {c start k : ℕ} → Filling old width last c start k new → last < k → width ≡ 2 ^ shiftOf old → CellsFilled old alone new
   unfolding namedBy
   filling-done {new} {c} {start} {k} w all wide =
-      record { kept = w .cells .kept; celled = λ e up. record { names = λ d l. named up d l } }
+      record { kept = w .cells .kept; celled = λ e up. record { names = λ d l. named up d l }; placed = λ e. absurd (omega (arith, e)) }
     where
       named : Level old → (d : ℕ) → d ≤ greatestOf new → Bracket new d (namedBy new d) alone
       named up d l =
@@ -135,4 +135,4 @@ module _ {old : List ℕ} (width last : ℕ) (long : length old ≡ ladderLength
 
 -- nothing filled
 pub filling-not : {old new : List ℕ} {width last c start k : ℕ} → Filling old width last c start k new → CellsFilled old 0 new
-filling-not w = record { kept = w .cells .kept; celled = λ e. absurd (omega (arith, e)) }
+filling-not w = record { kept = w .cells .kept; celled = λ e. absurd (omega (arith, e)); placed = λ e. absurd (omega (arith, e)) }

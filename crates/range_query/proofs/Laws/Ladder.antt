@@ -8,9 +8,10 @@ use lib.ListN.{length, getD, set, length-set}
 use lib.Seq.{getD-set-same, getD-set-other}
 use Rattle.model.specs.Limits.{maxThresholds}
 use Rattle.edge_pair.specs.Offsets.{Ordered}
-use Rattle.range_query.specs.Ladder.{shiftAt, mostAt, firstCell, ladderLength, Level, LadderOf}
+use Rattle.range_query.specs.Ladder.{shiftAt, kindAt, firstCell, ladderLength, Level, LadderOf}
 use Rattle.range_query.specs.Spreading.{SpreadSteps, StepsKept, CellsFilled}
 use Rattle.range_query.proofs.Laws.Filling.{kept-none, kept-set, level-kept, celled-kept}
+use Rattle.range_query.proofs.Laws.Placing.{placed-kept}
 
 -- no step yet, and one more
 pub spread-none : (ts ladder : List ℕ) → length ladder ≡ ladderLength → SpreadSteps ts 0 ladder
@@ -24,21 +25,21 @@ spread-more {ts} {ladder} n v w h e =
     go k l (yes p) = rw p (getD-set-same ladder n v 0 (omega (arith, w .long)) ∙ e)
     go k l (no p) = getD-set-other ladder n k v 0 p ∙ w .at k (omega arith)
 
--- the steps, the shift, the cells, and the number of steps of one put between them
+-- the steps, the shift, the cells, and what these are put between them
 module _ {ts first cells : List ℕ} (shift r : ℕ) (s : SpreadSteps ts maxThresholds first) (w : CellsFilled (set first shiftAt shift) r cells) where
   pub cells-long : length cells ≡ ladderLength
   cells-long = w .kept .long ∙ length-set first shiftAt shift ∙ s .long
 
-  pub spread-long : length (set cells mostAt r) ≡ ladderLength
-  spread-long = length-set cells mostAt r ∙ cells-long
+  pub spread-long : length (set cells kindAt r) ≡ ladderLength
+  spread-long = length-set cells kindAt r ∙ cells-long
 
-  kept : StepsKept (set first shiftAt shift) (set cells mostAt r)
-  kept = kept-set mostAt r (omega arith) (w .kept)
+  kept : StepsKept (set first shiftAt shift) (set cells kindAt r)
+  kept = kept-set kindAt r (omega arith) (w .kept)
 
   step : (k : ℕ) → k < maxThresholds → getD (set first shiftAt shift) k 0 ≡ getD ts (min k (length ts - 1)) 0
   step k h = getD-set-other first shiftAt k shift 0 (λ e. omega arith) ∙ s .at k h
 
-  pub all-spread : 1 ≤ length ts → length ts ≤ maxThresholds → ((k : ℕ) → getD ts k 0 < 4294967296) → Ordered ts → LadderOf ts (set cells mostAt r)
+  pub all-spread : 1 ≤ length ts → length ts ≤ maxThresholds → ((k : ℕ) → getD ts k 0 < 4294967296) → Ordered ts → LadderOf ts (set cells kindAt r)
   all-spread some few small rising =
       record {
         long = spread-long;
@@ -46,12 +47,19 @@ module _ {ts first cells : List ℕ} (shift r : ℕ) (s : SpreadSteps ts maxThre
         at = λ k h. kept .at k (omega arith) ∙ step k (omega arith) ∙ ap (λ (i : ℕ). getD ts i 0) {x = min k (length ts - 1)} {y = k} (omega arith);
         small = λ k h. small k;
         level = level-kept kept level;
-        celled = λ e. celled-kept (kept-set mostAt r (omega arith) (kept-none cells)) (λ j. getD-set-other cells mostAt (firstCell + j) r 0 (λ f. omega arith)) (w .celled (omega (arith, most-is, e)) level);
+        celled = λ e. celled-kept told same (w .celled (omega (arith, kind-is, e)) level);
+        placed = λ e. placed-kept told same (w .placed (omega (arith, kind-is, e)) level);
       }
     where
       level : Level (set first shiftAt shift)
       level =
           record { level = λ j k h l. rw (step j (omega arith), step k l) (rising .in-order (min j (length ts - 1)) (min k (length ts - 1)) (omega arith) (omega arith)) }
 
-      most-is : getD (set cells mostAt r) mostAt 0 ≡ r
-      most-is = getD-set-same cells mostAt r 0 (omega (arith, cells-long))
+      told : StepsKept cells (set cells kindAt r)
+      told = kept-set kindAt r (omega arith) (kept-none cells)
+
+      same : (j : ℕ) → getD (set cells kindAt r) (firstCell + j) 0 ≡ getD cells (firstCell + j) 0
+      same j = getD-set-other cells kindAt (firstCell + j) r 0 (λ e. omega arith)
+
+      kind-is : getD (set cells kindAt r) kindAt 0 ≡ r
+      kind-is = getD-set-same cells kindAt r 0 (omega (arith, cells-long))

@@ -1,7 +1,7 @@
 -- What is looked up in a ladder is the number of the steps that do not admit so many metres.
 use mathlib.Core.Bool.{Bool, true, false, cond}
 use mathlib.Core.List.{List}
-use mathlib.Core.Path.{_≡_, sym, ap, ap₂, _∙_}
+use mathlib.Core.Path.{_≡_, refl, sym, ap, ap₂, _∙_}
 use Prim.Native.Nat.{ℕ, suc, _+_, _-_, _/_, _%_, _^_, _≤_, _<_, min}
 use native.Mathlib.Decide.{ℕ-discrete, decLt}
 use native.Mathlib.Nat.{mod-eq-of-lt, mod-lt, one-le-pow}
@@ -10,7 +10,7 @@ use borrow.Author.Tests.{le-leb, lt-leb, lt-ltb, le-ltb, eq-eqb, ne-eqb}
 use lib.Dec.{eqb, leb, ltb}
 use lib.ListN.{length, getD}
 use Rattle.model.specs.Limits.{maxThresholds}
-use Rattle.range_query.specs.Ladder.{lastStep, shiftAt, mostAt, lastCell, shiftEnd, alone, greatestOf, shiftOf, capOf, cellOf, cellsOf, narrowed, byHalves, namedBy, byCell, bucketIn, Bracket, Level, Celled, LadderOf}
+use Rattle.range_query.specs.Ladder.{lastStep, shiftAt, kindAt, lastCell, shiftEnd, alone, exact, greatestOf, shiftOf, capOf, cellOf, cellsOf, narrowed, byHalves, namedBy, byCell, bySteps, placeIn, foundIn, bucketIn, Bracket, Level, Celled, Placed, LadderOf}
 use Rattle.range_query.specs.declared.lookup.Cells.{Cells}
 use Rattle.range_query.proofs.Laws.Cells.{last-cell, cell-to}
 
@@ -23,7 +23,20 @@ module _ (ladder : List ℕ) {cells : Cells} (told : cells ≡ cellsOf ladder) w
   pub shift-to : cells .shift < shiftEnd
   shift-to = rw read-shift (mod-lt (getD ladder shiftAt 0) (omega arith))
 
-  pub read-lone : cells .lone ≡ eqb (getD ladder mostAt 0) alone
+  read-exact : cells .exact ≡ eqb (getD ladder kindAt 0) exact
+  unfolding cellsOf
+  read-exact = ap (λ (c : Cells). c .exact) told
+
+  -- what is found by cells of one metre, and without them
+  pub found-place : cells .exact ≡ true → (d : ℕ) → foundIn ladder d ≡ placeIn ladder d
+  unfolding foundIn
+  found-place h d = rw (← read-exact, h) refl
+
+  pub found-steps : cells .exact ≡ false → (d : ℕ) → foundIn ladder d ≡ bySteps ladder d
+  unfolding foundIn
+  found-steps h d = rw (← read-exact, h) refl
+
+  pub read-lone : cells .lone ≡ eqb (getD ladder kindAt 0) alone
   unfolding cellsOf
   read-lone = ap (λ (c : Cells). c .lone) told
 
@@ -61,41 +74,19 @@ pub narrowed-to : (ladder : List ℕ) (d half pos : ℕ) → narrowed ladder d h
 unfolding narrowed
 narrowed-to ladder d half pos = omega (arith, taken-to (ltb (getD ladder (pos + half - 1) 0) d) half)
 
+-- the bucket is what is found, as far as there are steps
 module _ (ladder : List ℕ) (d : ℕ) where
-  -- all steps at most
-  halves-fit : byHalves ladder d ≤ maxThresholds
-  unfolding byHalves
-  halves-fit =
-      let by-32 = narrowed ladder d 32 0 in
-      let by-16 = narrowed ladder d 16 by-32 in
-      let by-8 = narrowed ladder d 8 by-16 in
-      let by-4 = narrowed ladder d 4 by-8 in
-      let by-2 = narrowed ladder d 2 by-4 in
-      let by-1 = narrowed ladder d 1 by-2 in
-      omega
-      (arith, narrowed-to ladder d 32 0, narrowed-to ladder d 16 by-32, narrowed-to ladder d 8 by-16, narrowed-to ladder d 4 by-8, narrowed-to ladder d 2 by-4, narrowed-to ladder d 1 by-2, narrowed-to ladder d 1 by-1)
-
-  cell-fits : byCell ladder d ≤ maxThresholds
-  unfolding byCell
-  cell-fits = go (decLt (greatestOf ladder) d)
-    where
-      named : namedBy ladder d % maxThresholds < maxThresholds
-      named = mod-lt (namedBy ladder d) (omega arith)
-
-      found : narrowed ladder d 1 (namedBy ladder d % maxThresholds) ≤ maxThresholds
-      found = omega (arith, narrowed-to ladder d 1 (namedBy ladder d % maxThresholds), named)
-
-      go : Dec (greatestOf ladder < d) → cond (ltb (greatestOf ladder) d) maxThresholds (narrowed ladder d 1 (namedBy ladder d % maxThresholds)) ≤ maxThresholds
-      go (yes p) = rw (lt-ltb (greatestOf ladder) d p) (omega arith)
-      go (no p) = rw (le-ltb (greatestOf ladder) d (omega arith)) found
-
   pub bucket-fits : bucketIn ladder d ≤ maxThresholds
   unfolding bucketIn
-  bucket-fits = go (ℕ-discrete (getD ladder mostAt 0) alone)
+  bucket-fits = omega arith
+
+  pub bucket-found : (k : ℕ) → k < maxThresholds → leb (bucketIn ladder d) k ≡ leb (foundIn ladder d) k
+  unfolding bucketIn
+  bucket-found k h = go (decLt k (foundIn ladder d))
     where
-      go : Dec (getD ladder mostAt 0 ≡ alone) → bucketIn ladder d ≤ maxThresholds
-      go (yes p) = rw (eq-eqb (getD ladder mostAt 0) alone p) cell-fits
-      go (no p) = rw (ne-eqb (getD ladder mostAt 0) alone p) halves-fit
+      go : Dec (k < foundIn ladder d) → leb (min (foundIn ladder d) maxThresholds) k ≡ leb (foundIn ladder d) k
+      go (yes p) = lt-leb (min (foundIn ladder d) maxThresholds) k (omega arith) ∙ sym (lt-leb (foundIn ladder d) k p)
+      go (no p) = le-leb (min (foundIn ladder d) maxThresholds) k (omega arith) ∙ sym (le-leb (foundIn ladder d) k (omega arith))
 
   -- before any step is looked at
   bracket-all : Bracket ladder d 0 maxThresholds
@@ -158,12 +149,32 @@ module _ {ladder : List ℕ} (up : Level ladder) (d : ℕ) where
           rw (le-ltb (greatestOf ladder) d (omega arith), is)
           (bracket-found ladder d (bracket-half 1 0 (omega arith) (omega arith) named))
 
+  -- beyond the last cell nothing is admitted, as in it
+  place-bucket : Placed ladder → Bucket ladder d (placeIn ladder d)
+  unfolding placeIn
+  place-bucket w = go (decLt d lastCell)
+    where
+      held : (c : ℕ) → c ≡ min d lastCell → Bucket ladder c (placeIn ladder d)
+      held c e = rw (← e) (bracket-found ladder c (w .places c (omega arith)))
+
+      go : Dec (d < lastCell) → Bucket ladder d (placeIn ladder d)
+      go (yes p) = held d (omega arith)
+      go (no p) =
+          record {
+            admits = λ k l. let low : getD ladder k 0 < lastCell = omega (arith, w .beyond, up .level k lastStep (omega arith) (omega arith)) in held lastCell (omega arith) .admits k l ∙ lt-leb lastCell (getD ladder k 0) low ∙ sym (lt-leb d (getD ladder k 0) (omega (arith, low)));
+          }
+
 -- in the ladder of so many thresholds
 pub bucket-right : {ts ladder : List ℕ} → LadderOf ts ladder → (d k : ℕ) → k < length ts → leb (bucketIn ladder d) k ≡ leb d (getD ts k 0)
-unfolding bucketIn
+unfolding foundIn bySteps
 bucket-right {ts} {ladder} w d k h =
-    rw (← w .at k h) (go (ℕ-discrete (getD ladder mostAt 0) alone) .admits k (omega (arith, w .few)))
+    bucket-found ladder d k (omega (arith, w .few))
+    ∙ rw (← w .at k h) (at-once (ℕ-discrete (getD ladder kindAt 0) exact) .admits k (omega (arith, w .few)))
   where
-    go : Dec (getD ladder mostAt 0 ≡ alone) → Bucket ladder d (bucketIn ladder d)
-    go (yes p) = rw (eq-eqb (getD ladder mostAt 0) alone p) (cell-bucket (w .level) d (w .celled p))
-    go (no p) = rw (ne-eqb (getD ladder mostAt 0) alone p) (halves-bucket (w .level) d)
+    go : Dec (getD ladder kindAt 0 ≡ alone) → Bucket ladder d (bySteps ladder d)
+    go (yes p) = rw (eq-eqb (getD ladder kindAt 0) alone p) (cell-bucket (w .level) d (w .celled p))
+    go (no p) = rw (ne-eqb (getD ladder kindAt 0) alone p) (halves-bucket (w .level) d)
+
+    at-once : Dec (getD ladder kindAt 0 ≡ exact) → Bucket ladder d (foundIn ladder d)
+    at-once (yes p) = rw (eq-eqb (getD ladder kindAt 0) exact p) (place-bucket (w .level) d (w .placed p))
+    at-once (no p) = rw (ne-eqb (getD ladder kindAt 0) exact p) (go (ℕ-discrete (getD ladder kindAt 0) alone))

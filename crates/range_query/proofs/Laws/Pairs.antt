@@ -21,9 +21,9 @@ use Rattle.edge_pair.specs.Within.{isReached, reachedPairs}
 use Rattle.edge_pair.specs.declared.edges.EdgePair.{EdgePair}
 use Rattle.edge_pair.proofs.Laws.Arrival.{reached-by-ends}
 use Rattle.edge_pair.proofs.Laws.Totals.{added-none, added-then, added-as, changed-added}
-use Rattle.range_query.specs.Ladder.{LadderOf}
+use Rattle.range_query.specs.Ladder.{foundIn, bucketIn, LadderOf}
 use Rattle.range_query.specs.Metres.{byEnds, metresBetween, tallied}
-use Rattle.range_query.proofs.Laws.Lookup.{bucket-right}
+use Rattle.range_query.proofs.Laws.Lookup.{bucket-found, bucket-right}
 
 -- the lesser of two is within t if one of them is
 lesser-within : (m n t : ℕ) → leb (min m n) t ≡ leb m t || leb n t
@@ -88,3 +88,8 @@ module _ (n many : ℕ) (f : ℕ → ℕ) (ys : List ℕ) where
 
   pub row-all : {old new : List ℕ} {j : ℕ} → j ≡ length ys → Added n (λ k. many * countBelow j (λ i. leb (f (getD ys i 0)) k)) old new → Added n (λ k. many * countIf (λ y. leb (f y) k) ys) old new
   row-all e a = added-as (λ k h. ap (λ (m : ℕ). many * m) (ap (λ (j : ℕ). countBelow j (λ i. leb (f (getD ys i 0)) k)) e ∙ count-below-list 0 (λ y. leb (f y) k) ys)) a
+
+-- the buckets, in place of what is found as g has it
+pub row-found : (ladder : List ℕ) (many : ℕ) (f g : ℕ → ℕ) (ys : List ℕ) {old new : List ℕ} → ((d : ℕ) → foundIn ladder d ≡ g d) → Added maxThresholds (λ k. many * countIf (λ y. leb (g (f y)) k) ys) old new → Added maxThresholds (λ k. many * countIf (λ y. leb (bucketIn ladder (f y)) k) ys) old new
+row-found ladder many f g ys is a =
+    added-as (λ k h. ap (λ (m : ℕ). many * m) (count-cong _ _ ys (λ y. sym (bucket-found ladder (f y) k h ∙ ap (λ (b : ℕ). leb b k) (is (f y)))))) a

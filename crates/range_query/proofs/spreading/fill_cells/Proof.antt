@@ -46,7 +46,7 @@ in-list : (c : tie.In-loop Inv-loop μ-loop) → c .before .loop .k ≤ lastCell
 in-list c = omega (arith, last-cell (greatestOf (c .before .before .before .before .before .before .before .args .ladder .now)) (c .before .before .before .width-of .result) (c .before .before .before .width-of .ensures .1), last (c .before .before), c .loop-test .taken)
 
 skip-requires : tie.Need-skip-requires Inv-loop μ-loop
-skip-requires c κs = (c .before .before .loop .inv .cells .kept .long ∙ c .before .before .before .before .before .before .before .before .pre, c .before .before .loop .inv .in-steps)
+skip-requires c κs = (c .before .before .loop .inv .cells .kept .long ∙ c .before .before .before .before .before .before .before .before .pre, c .before .before .loop .inv .in-steps, omega arith)
 
 add-next : tie.Need-add-next Inv-loop μ-loop
 add-next c = omega (arith, starts-within _ _ (c .before .before .before .before .before .width-of .ensures .1) (last (c .before .before .before .before)) (c .before .before .loop-test .taken), c .before .before .before .loop .inv .begins, small (c .before .before .before .before), c .before .before .before .before .before .width-of .ensures .2)

@@ -1,4 +1,4 @@
--- The steps are spread, the cells are filled, and the number of steps of one is told.
+-- The steps are spread, the cells are filled, and it is told what they are.
 use mathlib.Core.Path.{_∙_, refl, sym}
 use native.Mathlib.Omega.{arith}
 use Rattle.range_query.proofs.Laws.Ladder.{cells-long, spread-long, all-spread}
@@ -27,17 +27,17 @@ shift-within-requires c κs = search needs
 slice-write-ladder : tie.Need-slice-write-ladder
 slice-write-ladder c = omega (arith, c .before .before .before .before .spread-steps .ensures .long)
 
-fill-cells-requires : tie.Need-fill-cells-requires
-fill-cells-requires c κs = search needs
+fill-requires : tie.Need-fill-requires
+fill-requires c κs = search needs
 
 slice-write-ladder-2 : tie.Need-slice-write-ladder-2
-slice-write-ladder-2 c = omega (arith, cells-long _ _ (c .before .before .before .before .before .before .before .before .spread-steps .ensures) (c .before .before .fill-cells .ensures))
+slice-write-ladder-2 c = omega (arith, cells-long _ _ (c .before .before .before .before .before .before .before .before .spread-steps .ensures) (c .before .before .fill .ensures))
 
 same-length : tie.Need-same-length
-same-length c = spread-long _ _ (c .before .before .before .before .before .before .before .before .spread-steps .ensures) (c .before .before .fill-cells .ensures) ∙ sym (c .before .before .before .before .before .before .before .before .before .before .before .before .if1 .left)
+same-length c = spread-long _ _ (c .before .before .before .before .before .before .before .before .spread-steps .ensures) (c .before .before .fill .ensures) ∙ sym (c .before .before .before .before .before .before .before .before .before .before .before .before .if1 .left)
 
 returns-4 : tie.Need-returns-4
-returns-4 c = (spread-long _ _ (c .before .before .before .before .before .before .before .before .spread-steps .ensures) (c .before .before .fill-cells .ensures) ∙ sym (c .before .before .before .before .before .before .before .before .before .before .before .before .if1 .left), λ e some few rising. all-spread _ _ (c .before .before .before .before .before .before .before .before .spread-steps .ensures) (c .before .before .fill-cells .ensures) some few (λ k. c .before .before .before .before .before .before .before .before .before .before .before .before .before .before .shared-slice-known .given k .fits) rising)
+returns-4 c = (spread-long _ _ (c .before .before .before .before .before .before .before .before .spread-steps .ensures) (c .before .before .fill .ensures) ∙ sym (c .before .before .before .before .before .before .before .before .before .before .before .before .if1 .left), λ e some few rising. all-spread _ _ (c .before .before .before .before .before .before .before .before .spread-steps .ensures) (c .before .before .fill .ensures) some few (λ k. c .before .before .before .before .before .before .before .before .before .before .before .before .before .before .shared-slice-known .given k .fits) rising)
 
 pub spread-spec : {M : Type 1} → statement M
-spread-spec = tie.close (tie.spec returns returns-2 returns-3 spread-steps-requires least-gap-requires shift-within-requires slice-write-ladder fill-cells-requires slice-write-ladder-2 same-length returns-4)
+spread-spec = tie.close (tie.spec returns returns-2 returns-3 spread-steps-requires least-gap-requires shift-within-requires slice-write-ladder fill-requires slice-write-ladder-2 same-length returns-4)
