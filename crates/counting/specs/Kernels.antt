@@ -1,7 +1,7 @@
 -- Which kernel two runs are counted by, and what each kernel counts from.
 use mathlib.Core.List.{List}
 use mathlib.Core.Path.{_≡_}
-use Prim.Native.Nat.{ℕ, _≤_, _<_}
+use Prim.Native.Nat.{ℕ, _-_, _≤_, _<_}
 use lib.ListN.{length, getD}
 use Rattle.model.specs.Limits.{maxEvents, maxThresholds}
 use Rattle.edge_pair.specs.Offsets.{Ordered}
@@ -28,6 +28,12 @@ pub data Leads : Method → Kernel → Type 0 where
 pub record AllFrom (ts : List ℕ) (w : EdgePair) (k : ℕ) : Type 0 where
   pub before : (n : ℕ) → n < length ts → n < k → getD ts n 0 < shortestRoute w
   pub behind : (n : ℕ) → n < length ts → k ≤ n → greatestDistance w ≤ getD ts n 0
+
+-- of at least two thresholds the last but one is below near, and the last is not below far
+pub record LastAdmits (near far : ℕ) (ts : List ℕ) : Type 0 where
+  pub several : 2 ≤ length ts
+  pub before : getD ts (length ts - 2) 0 < near
+  pub last : far ≤ getD ts (length ts - 1) 0
 
 -- the same before place k and behind it
 pub record PartedAt (ts : List ℕ) (w : EdgePair) (k : ℕ) : Type 0 where

@@ -6,12 +6,15 @@ use Prim.Native.Nat.{ℕ, suc, pred, _+_, _-_, _≤_, _<_}
 use lib.ListN.{length, getD, take, drop}
 use Rattle.model.specs.Counting.{sumBelow}
 use Rattle.model.specs.Limits.{maxEvents, maxThresholds}
-use Rattle.model.specs.Network.{Network}
+use Rattle.model.specs.Network.{Network, edges}
 use Rattle.edge_pair.specs.Offsets.{Ordered, OnEdge, EdgesLaid}
+use Rattle.edge_pair.specs.Within.{reachedPairs}
 use Rattle.edge_pair.specs.declared.edges.EdgePair.{EdgePair}
+use Rattle.prepare.specs.EndTable.{EndTable}
 use Rattle.prepare.specs.RunPairs.{edgeOf, partOf, pairsWith, RunsReady}
 use Rattle.count_augmentation.specs.Storing.{NumbersStored}
 use Rattle.range_query.specs.Ladder.{LadderOf}
+use Rattle.counting.specs.TwoEdges.{tableEdges}
 use Rattle.counting.specs.declared.runs.Run.{Run}
 
 -- a run by its number, and its part of a list
@@ -27,6 +30,17 @@ pub record RunRead (es bounds : List ℕ) (r : ℕ) : Type 0 where
   pub in-bounds : suc r < length bounds
   pub in-edges : getD bounds r 0 < length es
   pub named : 1 ≤ edgeOf es bounds r
+
+-- the edges of the first runs, as they are read, are edges of a network whose table is held
+pub record EdgesRead (net : Network) (table es bounds : List ℕ) (runs : ℕ) : Type 0 where
+  pub table-is : EndTable net table
+  pub read : (k : ℕ) → k < runs → RunRead es bounds k
+  pub is-edge : (k : ℕ) → k < runs → pred (edgeOf es bounds k) < edges net
+
+-- nothing on the edges of the runs from one on up to before another is reached from the edge at index i
+pub record ApartTo (net : Network) (table es bounds : List ℕ) (i from to : ℕ) : Type 0 where
+  pub low : from ≤ to
+  pub none : (k : ℕ) → from ≤ k → k < to → (t : ℕ) (xs ys : List ℕ) → reachedPairs t (tableEdges net table i (pred (edgeOf es bounds k))) xs ys ≡ 0
 
 -- its part lies within a list, which is not too long
 pub record PartsIn (l : List ℕ) (run : Run) : Type 0 where

@@ -7,7 +7,7 @@ ghost use lib.ListN.{length, getD};
 ghost use Rattle.model.specs.Limits.{maxEvents};
 ghost use Rattle.edge_pair.specs.Offsets.{Ordered};
 ghost use Rattle.range_query.specs.Ladder.{LadderOf};
-ghost use Rattle.counting.specs.Kernels.{Leads, Right};
+ghost use Rattle.counting.specs.Kernels.{LastAdmits, Leads, Right};
 use crate::method::Method;
 use edge_pair::EdgePair;
 use edge_pair::greatest_distance;
@@ -27,8 +27,8 @@ pub enum Kernel {
     Parted(usize),
 }
 
-// Up to so many pairs are looked at one by one, whatever the thresholds are.
-const FEWEST_PAIRS: u64 = 4;
+// Up to so many pairs are looked at one by one, unless the first threshold admits all of them or only the last one admits any.
+const FEWEST_PAIRS: u64 = 1;
 
 // Up to so many are, where some threshold may part them.
 const FEW_PAIRS: u64 = 25;
@@ -37,14 +37,13 @@ const FEW_PAIRS: u64 = 25;
 const FEW_TO_COMPARE: usize = 16;
 
 // More pairs are looked at one by one where twice the events of the second run are at most so many times the thresholds that may part
-// them. On one edge looking numbers up takes twice as long, so that the limit is twice as high.
+// them. On one edge looking numbers up takes longer, and so does moving cursors, so that the limit is higher.
 const TWICE_A_THRESHOLD: u64 = 3;
 
-const TWICE_A_THRESHOLD_ON_ONE_EDGE: u64 = 6;
+const TWICE_A_THRESHOLD_ON_ONE_EDGE: u64 = 10;
 
-// Else, on one edge, cursors are moved where all thresholds are at most so many times those that may part the pairs: at each of all
-// thresholds the cursors are moved over the whole run.
-const MOST_PARTING: u64 = 4;
+// Moving cursors over so many events at one offset counts as much as moving them on to another offset.
+const EVENTS_TO_AN_OFFSET: u64 = 16;
 
 // Numbers of events are cut off here, above the limit on events, so that products of two fit.
 const MANY: u64 = 65536;
@@ -58,13 +57,23 @@ pub(crate) fn pairs_of(a: usize, b: usize) -> u64
 
 // The limit for two edges, or for one edge with itself.
 fn twice_a_threshold(same: bool) -> u64
-    ensures { λ r. ⌜ r ≤ 6 ⌝ }
+    ensures { λ r. ⌜ r ≤ 10 ⌝ }
 {
     if same {
         TWICE_A_THRESHOLD_ON_ONE_EDGE
     } else {
         TWICE_A_THRESHOLD
     }
+}
+
+// On one edge, moving cursors should be faster than looking numbers up: at each of all thresholds the cursors are moved to every offset
+// and over every event, and numbers are looked up for every offset at the thresholds that may part the pairs, which counts twice.
+fn cursors_pay(length: u32, events: u64, thresholds: u64, parting: u64) -> bool {
+    let passed = lesser(events, MANY);
+    let offsets = lesser(passed, length as u64 + 1);
+    let moves = lesser(thresholds, MANY) * (passed + EVENTS_TO_AN_OFFSET * offsets);
+    let looks = lesser(parting, MANY) * (2 * EVENTS_TO_AN_OFFSET * offsets);
+    moves <= looks
 }
 
 // Looking at pairs one by one, moving cursors or looking numbers up, by how many of so many thresholds may part the pairs, from the one
@@ -87,7 +96,7 @@ fn by_thresholds(
     if !edges.same {
         return Kernel::CountAugmentation;
     }
-    if thresholds as u64 <= MOST_PARTING * between {
+    if cursors_pay(edges.length1, others as u64, thresholds as u64, between) {
         return Kernel::NeighborSharing;
     }
     Kernel::CountAugmentation
@@ -103,6 +112,20 @@ fn is_next(metres: u64, place: usize, thresholds: &[u32]) -> bool
     metres <= value_at(thresholds, place) as u64
 }
 
+// Only the last of at least two thresholds admits so many metres, and it admits so many more.
+fn only_last_admits(near: u64, far: u64, thresholds: &[u32]) -> bool
+    ensures { λ r. ⌜ (r ≡ true → LastAdmits near far (now (thresholds .entry))) ⌝ }
+{
+    let count = thresholds.len();
+    if count < 2 {
+        return false;
+    }
+    if near <= thresholds[count - 2] as u64 {
+        return false;
+    }
+    far <= thresholds[count - 1] as u64
+}
+
 // What should be fastest for two runs of so many events.
 fn cheapest(
     edges: EdgePair,
@@ -113,15 +136,19 @@ fn cheapest(
 ) -> Kernel
     ensures { λ r. ⌜ (Ordered (now (thresholds .entry)) → LadderOf (now (thresholds .entry)) (now (ladder .entry)) → Right (now (thresholds .entry)) edges r) ⌝ }
 {
-    let pairs = pairs_of(events, others);
-    if pairs <= FEWEST_PAIRS {
-        return Kernel::RangeQuery;
-    }
     let far = greatest_distance(edges);
     if far <= value_at(thresholds, 0) as u64 {
         return Kernel::AtOnce(0);
     }
-    let from = first_admitting(ladder, shortest_route(edges));
+    let near = shortest_route(edges);
+    if only_last_admits(near, far, thresholds) {
+        return Kernel::AtOnce(thresholds.len() - 1);
+    }
+    let pairs = pairs_of(events, others);
+    if pairs <= FEWEST_PAIRS {
+        return Kernel::RangeQuery;
+    }
+    let from = first_admitting(ladder, near);
     if thresholds.len() <= from {
         return Kernel::AtOnce(from);
     }

@@ -1,13 +1,13 @@
 // Runs of events, two at a time.
 ghost use mathlib.Core.Path.{_≡_};
-ghost use Prim.Native.Nat.{suc, _-_, _≤_, _<_};
+ghost use Prim.Native.Nat.{suc, pred, _-_, _≤_, _<_};
 ghost use lib.ListN.{length, getD};
 ghost use Rattle.model.specs.Network.{network};
 ghost use Rattle.edge_pair.specs.Totals.{wrap, Added};
 ghost use Rattle.edge_pair.specs.Within.{reachedPairs};
-ghost use Rattle.prepare.specs.RunPairs.{runPairs, pairsWith};
+ghost use Rattle.prepare.specs.RunPairs.{edgeOf, runPairs, pairsWith};
 ghost use Rattle.counting.specs.TwoEdges.{rowsOf};
-ghost use Rattle.counting.specs.Runs.{runOf, RunRead, PartsIn, part, TwoReady, AllRuns, partners, eachPairs};
+ghost use Rattle.counting.specs.Runs.{runOf, RunRead, PartsIn, part, TwoReady, AllRuns, EdgesRead, ApartTo, partners, eachPairs};
 use crate::kernels::add_pairs;
 use crate::method::Method;
 use crate::two_edges::Rows;
@@ -31,6 +31,16 @@ fn place(list: &[u32], k: usize) -> usize
     list[k] as usize
 }
 
+// The index of a run's edge.
+fn edge_at(edges: &[u32], bounds: &[u32], r: usize) -> usize
+    requires { ⌜ RunRead (now edges) (now bounds) r ⌝ }
+    ensures { λ i. ⌜ i ≡ pred (edgeOf (now (edges .entry)) (now (bounds .entry)) r) ⌝ }
+{
+    let from = place(bounds, r);
+    let number = place(edges, from);
+    number - 1
+}
+
 // A run by its number.
 fn run_at(edges: &[u32], bounds: &[u32], r: usize) -> Run
     requires { ⌜ RunRead (now edges) (now bounds) r ⌝ }
@@ -38,8 +48,43 @@ fn run_at(edges: &[u32], bounds: &[u32], r: usize) -> Run
 {
     let from = place(bounds, r);
     let to = place(bounds, r + 1);
-    let edge = place(edges, from) - 1;
+    let edge = edge_at(edges, bounds, r);
     Run { edge, from, to }
+}
+
+// The first of the runs from a number up to before another whose edge is not apart from the one at index i; the other number, if there
+// is none. Few lists are read for each, so that passing over runs is cheap. Where the last edge was not apart, the first run is taken
+// without a look.
+fn next_near(
+    last_apart: bool,
+    nodes: u32,
+    firsts: &[u32],
+    seconds: &[u32],
+    lengths: &[u32],
+    table: &[u32],
+    edges: &[u32],
+    bounds: &[u32],
+    i: usize,
+    rows: Rows,
+    from: usize,
+    to: usize,
+) -> usize
+    requires { ⌜ EdgesRead (network nodes (now firsts) (now seconds) (now lengths)) (now table) (now edges) (now bounds) to × (i < length (now lengths)) × (rows ≡ rowsOf (network nodes (now firsts) (now seconds) (now lengths)) i) × (from ≤ to) ⌝ }
+    ensures { λ r. ⌜ (r ≤ to) × ApartTo (network nodes (now (firsts .entry)) (now (seconds .entry)) (now (lengths .entry))) (now (table .entry)) (now (edges .entry)) (now (bounds .entry)) i from r ⌝ }
+{
+    if !last_apart {
+        return from;
+    }
+    let mut b = from;
+    while b < to {
+        let edge = edge_at(edges, bounds, b);
+        let pair = table_edges(nodes, firsts, seconds, lengths, table, i, rows, edge);
+        if !are_apart(pair) {
+            return b;
+        }
+        b += 1;
+    }
+    b
 }
 
 // Adds, at each threshold, the pairs of an event of one run and one of another, whose edges are a pair.
@@ -75,7 +120,7 @@ fn add_parts(
     );
 }
 
-// The same for two runs of so many in all, the first of which has been read. Those on edges apart are passed over.
+// The same for two runs of so many in all, the first of which has been read. True if their edges are apart, so that there is nothing to add.
 fn add_two(
     method: Method,
     nodes: u32,
@@ -96,7 +141,7 @@ fn add_two(
     rows: Rows,
     b: usize,
     totals: &mut [u64],
-)
+) -> bool
     requires { ⌜ AllRuns (network nodes (now firsts) (now seconds) (now lengths)) (now table) (now edges) (now offsets) (now bounds) (now «near_first») (now «near_second») (now thresholds) (now ladder) runs × (a < runs) × (b < runs) × (one ≡ runOf (now edges) (now bounds) a) × (rows ≡ rowsOf (network nodes (now firsts) (now seconds) (now lengths)) (one .edge)) ⌝ }
     ensures { λ _. ⌜ Added (length (now (thresholds .entry))) (λ k. runPairs (network nodes (now (firsts .entry)) (now (seconds .entry)) (now (lengths .entry))) (now (edges .entry)) (now (offsets .entry)) (now (bounds .entry)) (getD (now (thresholds .entry)) k 0) a b) (now (totals .entry)) (now (totals .exit)) ⌝ }
 {
@@ -112,7 +157,7 @@ fn add_two(
         other.edge,
     );
     if are_apart(pair) {
-        return;
+        return true;
     }
     add_parts(
         method,
@@ -126,9 +171,11 @@ fn add_two(
         other,
         totals,
     );
+    false
 }
 
-// The same for one run with those from a number up to before another, of its own set or of a different one.
+// The same for one run with those from a number up to before another, of its own set or of a different one. Those on edges apart are
+// passed over.
 fn add_with(
     method: Method,
     nodes: u32,
@@ -156,7 +203,7 @@ fn add_with(
     let rows = rows_of(nodes, firsts, seconds, lengths, one.edge);
     let mut b = from;
     while b < to {
-        add_two(
+        let apart = add_two(
             method,
             nodes,
             firsts,
@@ -177,7 +224,20 @@ fn add_with(
             b,
             totals,
         );
-        b += 1;
+        b = next_near(
+            apart,
+            nodes,
+            firsts,
+            seconds,
+            lengths,
+            table,
+            edges,
+            bounds,
+            one.edge,
+            rows,
+            b + 1,
+            to,
+        );
     }
 }
 

@@ -10,7 +10,6 @@ ghost use Rattle.model.specs.Limits.{maxNodes};
 ghost use Rattle.prepare.specs.EndTable.{EndTable};
 ghost use Rattle.counting.specs.TwoEdges.{rowsOf, tableEdges, EdgeIn};
 use edge_pair::EdgePair;
-use model::greater;
 
 // An edge by its index: its length, and where the table has the rows of its two ends.
 pub struct Rows {
@@ -53,7 +52,8 @@ fn entry_in(table: &[u32], row: usize, v: u32) -> u32
     requires { ⌜ (1 ≤ v) × (row + pred v < length (now table)) ⌝ }
     ensures { λ r. ⌜ r ≡ getD (now (table .entry)) (row + pred v) 0 ⌝ }
 {
-    table[row + (v as usize - 1)]
+    let rest = &table[row..];
+    rest[v as usize - 1]
 }
 
 // Two edges: one whose rows are known, and another by its index.
@@ -96,9 +96,5 @@ pub(crate) fn are_apart(pair: EdgePair) -> bool
     if pair.same {
         return false;
     }
-    greater(
-        greater(pair.ff as u64, pair.fs as u64),
-        greater(pair.sf as u64, pair.ss as u64),
-    )
-        == 0
+    (pair.ff == 0) & (pair.fs == 0) & (pair.sf == 0) & (pair.ss == 0)
 }

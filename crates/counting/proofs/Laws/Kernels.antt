@@ -2,7 +2,7 @@
 use mathlib.Core.Bool.{cond}
 use mathlib.Core.List.{List}
 use mathlib.Core.Path.{_≡_, _∙_, sym}
-use Prim.Native.Nat.{ℕ, suc, _*_, _≤_, _<_}
+use Prim.Native.Nat.{ℕ, suc, _*_, _-_, _≤_, _<_}
 use native.Mathlib.Decide.{decLe}
 use native.Mathlib.Omega.{arith}
 use borrow.Author.Tests.{le-leb, lt-leb, leb-false}
@@ -15,7 +15,7 @@ use Rattle.edge_pair.specs.Totals.{Added, Changed}
 use Rattle.edge_pair.specs.Ways.{shortestRoute, greatestDistance}
 use Rattle.edge_pair.specs.Within.{reachedPairs}
 use Rattle.edge_pair.specs.declared.edges.EdgePair.{EdgePair}
-use Rattle.counting.specs.Kernels.{AllFrom, PartedAt, Small, Right, all-at-once, in-two-parts}
+use Rattle.counting.specs.Kernels.{AllFrom, LastAdmits, PartedAt, Small, Right, all-at-once, in-two-parts}
 use Rattle.counting.specs.Runs.{TwoReady}
 use Rattle.counting.specs.declared.choice.Kernel.the-variants.{AtOnce, Parted}
 
@@ -49,6 +49,14 @@ added-parted {ts} {w} {xs} {ys} {place} {old = old} few parts laid here many fir
 pub first-admits : {ts : List ℕ} {w : EdgePair} → Ordered ts → (far : ℕ) → far ≡ greatestDistance w → (t : ℕ) → t ≡ getD ts 0 0 → far ≤ t → AllFrom ts w 0
 first-admits up far far-is t t-is l =
     record { before = λ n m h. absurd (omega arith); behind = λ n m h. rw (← far-is) (omega (arith, t-is, up .in-order 0 n h m)) }
+
+-- only the last one admits the shortest route, and it admits the greatest distance
+pub last-admits : {ts : List ℕ} {w : EdgePair} → Ordered ts → (near far : ℕ) → near ≡ shortestRoute w → far ≡ greatestDistance w → LastAdmits near far ts → AllFrom ts w (length ts - 1)
+last-admits {ts} up near far near-is far-is a =
+    record {
+      before = λ n m h. rw (← near-is) (omega (arith, a .before, up .in-order n (length ts - 2) (omega (arith, a .several)) (omega (arith, a .several))));
+      behind = λ n m h. rw (← far-is) (omega (arith, a .last, up .in-order (length ts - 1) n h m));
+    }
 
 -- the place of the first threshold that is not below the shortest route
 module _ (ts : List ℕ) (w : EdgePair) (near place : ℕ) (near-is : near ≡ shortestRoute w) (place-is : (k : ℕ) → k < length ts → leb place k ≡ leb near (getD ts k 0)) where

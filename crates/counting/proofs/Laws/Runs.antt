@@ -1,9 +1,11 @@
 -- Runs as they are read, and the pairs of two runs as the kernels count them.
 use mathlib.Core.Bool.{_&&_, _||_}
 use mathlib.Core.List.{List}
-use mathlib.Core.Path.{_≡_, _∙_, refl, sym, ap}
-use Prim.Native.Nat.{ℕ, suc, pred, _+_, _-_, _≤_, _<_}
+use mathlib.Core.Path.{_≡_, _∙_, refl, sym, ap, subst}
+use Prim.Native.Nat.{ℕ, zero, suc, pred, _+_, _-_, _≤_, _<_}
+use native.Mathlib.Nat.{add-zero}
 use native.Mathlib.Omega.{arith}
+use borrow.Author.Count.{below-more}
 use lib.Dec.{eqb, leb}
 use lib.ListN.{length, getD}
 use Rattle.model.proofs.Laws.Arrival.{count-places}
@@ -25,7 +27,7 @@ use Rattle.edge_pair.specs.declared.edges.EdgePair.{EdgePair}
 use Rattle.prepare.specs.Prepared.{entry}
 use Rattle.prepare.specs.RunPairs.{edgeOf, partOf, runPairs, pairsWith, RunsReady}
 use Rattle.prepare.proofs.Laws.RunPairs.{part-of-length, run-is, run-codes, with-nothing, with-next}
-use Rattle.counting.specs.Runs.{runOf, part, RunRead, PartsIn, TwoReady, AllRuns}
+use Rattle.counting.specs.Runs.{runOf, part, RunRead, EdgesRead, ApartTo, PartsIn, TwoReady, AllRuns}
 use Rattle.counting.specs.TwoEdges.{tableEdges}
 use Rattle.counting.specs.declared.runs.Run.{Run}
 
@@ -89,6 +91,15 @@ module _ {net : Network} {table es xs bounds ts : List ℕ} {q : ℕ} (w : RunsR
 module _ {net : Network} {table es xs bounds near-first near-second ts ladder : List ℕ} {runs : ℕ} (all : AllRuns net table es xs bounds near-first near-second ts ladder runs) where
   pub read : (k : ℕ) → k < runs → RunRead es bounds k
   read = run-read (all .ready)
+
+  -- and so are the edges of the first ones
+  pub edges-read : (n : ℕ) → n ≤ runs → EdgesRead net table es bounds n
+  edges-read n few =
+      record {
+        table-is = all .ready .table-is;
+        read = λ k l. read k (omega arith);
+        is-edge = λ k l. (let named = run-is (all .ready) k (omega arith) in omega (arith, named .edge-from, named .edge-to));
+      }
 
   -- a run as it was read: its edge, and its part of the lists
   module _ (k : ℕ) (l : k < runs) (run : Run) (is : run ≡ runOf es bounds k) where
@@ -161,6 +172,19 @@ module _ {net : Network} {table es xs bounds near-first near-second ts ladder : 
     pub apart-added : (l : List ℕ) → ((t : ℕ) (xs ys : List ℕ) → reachedPairs t g xs ys ≡ 0) → Added (length ts) (λ k. runPairs net es xs bounds (getD ts k 0) a b) l l
     apart-added l none = added-as (λ k h. sym (none (getD ts k 0) (part one xs) (part other xs)) ∙ counted k h) (added-none (length ts) l)
 
+-- runs apart from the edge at index i: none yet, and one more, whose edge is at index j
+module _ {net : Network} {table es bounds : List ℕ} {i from : ℕ} where
+  pub apart-none : ApartTo net table es bounds i from from
+  apart-none = record { low = omega arith; none = λ k l u. absurd (omega arith) }
+
+  pub apart-more : {b j : ℕ} {g : EdgePair} → ApartTo net table es bounds i from b → j ≡ pred (edgeOf es bounds b) → g ≡ tableEdges net table i j → ((t : ℕ) (xs ys : List ℕ) → reachedPairs t g xs ys ≡ 0) → ApartTo net table es bounds i from (b + 1)
+  apart-more {b} so-far edge pair off =
+      let none-on : (k : ℕ) → Type 0 = λ k. from ≤ k → (t : ℕ) (xs ys : List ℕ) → reachedPairs t (tableEdges net table i (pred (edgeOf es bounds k))) xs ys ≡ 0 in
+      record {
+        low = omega (arith, so-far .low);
+        none = λ k l u. below-more none-on b (λ n u l. so-far .none n l u) (λ _ t xs ys. rw (← edge, ← pair) (off t xs ys)) k u l;
+      }
+
 -- run a with those from one on up to before run b, added one after the other
 pub record WithTo (net : Network) (es xs bounds ts : List ℕ) (a from b : ℕ) (old new : List ℕ) : Type 0 where
   pub low : from ≤ b
@@ -180,3 +204,19 @@ module _ {net : Network} {es xs bounds ts : List ℕ} {a from : ℕ} where
 
   pub with-all : {b to : ℕ} {old new : List ℕ} → WithTo net es xs bounds ts a from b old new → b ≡ to → Added (length ts) (λ k. pairsWith net es xs bounds (getD ts k 0) from a (to - from)) old new
   with-all w e = rw (← e) (w .added)
+
+-- runs that lie apart have nothing to add
+module _ {net : Network} {table es xs bounds near-first near-second ts ladder : List ℕ} {runs : ℕ} (all : AllRuns net table es xs bounds near-first near-second ts ladder runs) {a from : ℕ} (la : a < runs) (one : Run) (is : one ≡ runOf es bounds a) {old new : List ℕ} where
+  passed : (n b : ℕ) → WithTo net es xs bounds ts a from b old new → b + n ≤ runs → ApartTo net table es bounds (one .edge) b (b + n) → WithTo net es xs bounds ts a from (b + n) old new
+  unfolding runOf
+  passed zero b so-far few off = rw add-zero so-far
+  passed (suc n) b so-far few off =
+      let here = apart-added all la (omega arith) one (runOf es bounds b) is refl _ refl new (off .none b (omega arith) (omega arith)) in
+      subst (λ (k : ℕ). WithTo net es xs bounds ts a from k old new) (omega arith)
+      (passed n (b + 1) (with-more so-far here) (omega arith) (record { low = omega arith; none = λ k l u. off .none k (omega arith) (omega arith) }))
+
+  pub with-apart : {b c : ℕ} → WithTo net es xs bounds ts a from b old new → c ≤ runs → ApartTo net table es bounds (one .edge) b c → WithTo net es xs bounds ts a from c old new
+  with-apart {b} {c} so-far few off =
+      let whole : b + (c - b) ≡ c = omega (arith, off .low) in
+      subst (λ (k : ℕ). WithTo net es xs bounds ts a from k old new) whole
+      (passed (c - b) b so-far (omega arith) (rw whole off))

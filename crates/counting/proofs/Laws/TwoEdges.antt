@@ -2,11 +2,13 @@
 use mathlib.Core.Bool.{Bool, true, false, _&&_, _||_}
 use mathlib.Core.List.{List}
 use mathlib.Core.Path.{_≡_, refl, subst}
-use Prim.Native.Nat.{ℕ, pred, _+_, _*_, _≤_, _<_, max}
+use Prim.Native.Nat.{ℕ, pred, _+_, _*_, _≤_, _<_}
 use native.Mathlib.Omega.{arith}
+use borrow.Author.Tests.{eqb-true}
 use lib.Dec.{eqb}
 use lib.ListN.{length, getD}
 use Rattle.model.proofs.Laws.Counting.{sum-below-zero}
+use Rattle.model.proofs.Laws.Refusal.{both-true}
 use Rattle.model.proofs.Laws.Cover.{none-pass}
 use Rattle.model.specs.Distance.{plus, within, decode}
 use Rattle.model.specs.Location.{reaches}
@@ -29,10 +31,13 @@ all-off : {a b c d two : Bool} (near : Bool) → a ≡ false → b ≡ false →
 all-off near p q r s two = rw (p, q, r, s, two)
 
 -- none of the four has one
-pub none-reached : (w : EdgePair) → w .same ≡ false → max (max (w .ff) (w .fs)) (max (w .sf) (w .ss)) ≡ 0 → (t : ℕ) (xs ys : List ℕ) → reachedPairs t w xs ys ≡ 0
+pub none-reached : (w : EdgePair) → w .same ≡ false → (((eqb (w .ff) 0 && eqb (w .fs) 0) && eqb (w .sf) 0) && eqb (w .ss) 0) ≡ true → (t : ℕ) (xs ys : List ℕ) → reachedPairs t w xs ys ≡ 0
 unfolding reachedPairs isReached reachedBy distanceBetween codeBetween
 none-reached w two none t xs ys =
-    sum-below-zero (length xs) _ (λ i h. none-pass _ ys (λ j l. all-off _ (no-route t _ (w .ff) _ (omega (arith, none))) (no-route t _ (w .fs) _ (omega (arith, none))) (no-route t _ (w .sf) _ (omega (arith, none))) (no-route t _ (w .ss) _ (omega (arith, none))) two))
+    let last = both-true _ _ none in
+    let third = both-true _ _ (last .0) in
+    let others = both-true _ _ (third .0) in
+    sum-below-zero (length xs) _ (λ i h. none-pass _ ys (λ j l. all-off _ (no-route t _ (w .ff) _ (eqb-true _ _ (others .0))) (no-route t _ (w .fs) _ (eqb-true _ _ (others .1))) (no-route t _ (w .sf) _ (eqb-true _ _ (third .1))) (no-route t _ (w .ss) _ (eqb-true _ _ (last .1))) two))
 
 -- an edge of a network whose table is held
 pub held-edge : {net : Network} {table : List ℕ} {i : ℕ} → EndTable net table → i < edges net → EdgeIn net i

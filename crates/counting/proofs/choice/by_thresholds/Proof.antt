@@ -42,8 +42,8 @@ returns c = λ ts. by-range-query
 returns-2 : tie.Need-returns-2
 returns-2 c = λ ts. by-count-augmentation
 
-mul-if3 : tie.Need-mul-if3
-mul-if3 c = omega (arith, c .before .before .before .before .before .lesser2 .ensures)
+cursors-pay-requires : tie.Need-cursors-pay-requires
+cursors-pay-requires c κs = search needs
 
 returns-3 : tie.Need-returns-3
 returns-3 c = λ ts. by-neighbor-sharing
@@ -66,6 +66,6 @@ by-thresholds-spec =
     mul-if1-2
     returns
     returns-2
-    mul-if3
+    cursors-pay-requires
     returns-3
     returns-4)

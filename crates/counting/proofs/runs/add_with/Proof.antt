@@ -2,9 +2,10 @@
 use mathlib.Core.Path.{_≡_}
 use Prim.Native.Nat.{_-_, _≤_}
 use native.Mathlib.Omega.{arith}
+use borrow.Author.Needs.{needs}
 use lib.ListN.{length}
 use Rattle.model.specs.Network.{network}
-use Rattle.counting.proofs.Laws.Runs.{read, edge-in, WithTo, with-none, with-more, with-all}
+use Rattle.counting.proofs.Laws.Runs.{read, edge-in, edges-read, WithTo, with-none, with-more, with-apart, with-all}
 use Rattle.counting.proofs.Laws.TwoEdges.{held-edge}
 use Rattle.counting.proofs.runs.add_with.Statement.{statement}
 use Rattle.counting.proofs.runs.add_with.Tie as tie
@@ -29,14 +30,17 @@ loop-holds c = (c .before .before .before .before .before .before .before .befor
 add-two-requires : tie.Need-add-two-requires Inv-loop μ-loop
 add-two-requires c κs = (c .before .before .before .before .before .before .before .before .before .before .before .before .before .before .before .before .before .pre .0, c .before .before .before .before .before .before .before .before .before .before .before .before .before .before .before .before .before .pre .1, omega (arith, c .before .loop-test .taken, c .before .before .before .before .before .before .before .before .before .before .before .before .before .before .before .before .before .pre .3), c .before .before .before .before .run-at .ensures, c .before .before .before .rows-of .ensures)
 
-add-b : tie.Need-add-b Inv-loop μ-loop
-add-b c = omega (arith, c .before .before .before .before .loop-test .taken, c .before .before .before .before .before .before .before .before .before .before .before .before .before .before .before .before .before .before .before .before .fits .to)
+add-next-near : tie.Need-add-next-near Inv-loop μ-loop
+add-next-near c = omega (arith, c .before .before .before .before .loop-test .taken, c .before .before .before .before .before .before .before .before .before .before .before .before .before .before .before .before .before .before .before .before .fits .to)
+
+next-near-requires : tie.Need-next-near-requires Inv-loop μ-loop
+next-near-requires c κs = (edges-read (c .before .before .before .before .before .before .before .before .before .before .before .before .before .before .before .before .before .before .before .before .pre .0) _ (c .before .before .before .before .before .before .before .before .before .before .before .before .before .before .before .before .before .before .before .before .pre .3), edge-in (c .before .before .before .before .before .before .before .before .before .before .before .before .before .before .before .before .before .before .before .before .pre .0) _ (c .before .before .before .before .before .before .before .before .before .before .before .before .before .before .before .before .before .before .before .before .pre .1) _ (c .before .before .before .before .before .before .before .run-at .ensures), c .before .before .before .before .before .before .rows-of .ensures, omega (arith, c .before .before .before .before .loop-test .taken))
 
 loop-less : tie.Need-loop-less Inv-loop μ-loop
-loop-less c = omega (arith, c .before .before .before .before .loop-test .taken)
+loop-less c = omega (arith, c .before .before .before .before .before .loop-test .taken, c .next-near .ensures .1 .low)
 
 loop-again : tie.Need-loop-again Inv-loop μ-loop
-loop-again c = (omega (arith, c .before .before .before .before .loop-test .taken), with-more (c .before .before .before .before .before .loop .inv .1) (c .before .before .add-two .ensures))
+loop-again c = (c .next-near .ensures .0, with-apart (c .before .before .before .before .before .before .before .before .before .before .before .before .before .before .before .before .before .before .before .before .before .pre .0) (c .before .before .before .before .before .before .before .before .before .before .before .before .before .before .before .before .before .before .before .before .before .pre .1) _ (c .before .before .before .before .before .before .before .before .run-at .ensures) (with-more (c .before .before .before .before .before .before .loop .inv .1) (c .before .before .before .add-two .ensures)) (omega (arith, c .next-near .ensures .0, c .before .before .before .before .before .before .before .before .before .before .before .before .before .before .before .before .before .before .before .before .before .pre .3)) (c .next-near .ensures .1))
 
 same-length : tie.Need-same-length Inv-loop μ-loop
 same-length c = c .before .loop .inv .1 .added .same-length
@@ -54,7 +58,8 @@ add-with-spec =
     rows-of-requires
     loop-holds
     add-two-requires
-    add-b
+    add-next-near
+    next-near-requires
     loop-less
     loop-again
     same-length
