@@ -16,8 +16,8 @@ use model::Check;
 use model::Network;
 use model::lesser;
 
-// So many passes over all edges are tried from a source, which take no more time than a search that reaches all nodes. Where they do not
-// do from one, searches are made from all others.
+// So many passes over all edges are tried from a source; they take no more time than a search that reaches all nodes. If they are not
+// enough for one source, searches are made from it and from all further ones.
 const MOST_PASSES: u64 = 16;
 
 // Passes are not tried again where less than one node for so many edges is within the bound: a search is faster then.
@@ -54,7 +54,7 @@ fn reached(dist: &[u32]) -> usize {
     count
 }
 
-// How many passes are worth trying from the next source, after they did from one that these entries are of.
+// How many passes are worth trying from the next source. The entries are those that passes have found from this one.
 fn worth_trying(dist: &[u32], edges: usize) -> u64 {
     if reached(dist) < edges / EDGES_A_NODE {
         return 0;
