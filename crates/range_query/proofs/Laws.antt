@@ -3,6 +3,7 @@ pub mod Cells
 pub mod Filling
 pub mod Ladder
 pub mod Lookup
+pub mod Own
 pub mod Pairs
 pub mod Placing
 pub mod Within

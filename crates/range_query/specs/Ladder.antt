@@ -9,13 +9,16 @@ use lib.ListN.{length, getD}
 use Rattle.model.specs.Limits.{maxThresholds}
 use Rattle.range_query.specs.declared.lookup.Cells.{Cells}
 
--- the places of the ladder: the step of the greatest threshold, behind the steps the shift and what the cells are, and behind
--- them the cells
+-- the places of the ladder: the step of the greatest threshold, behind the steps the widest gap, the shift and what the cells are, and
+-- behind them the cells
 abbrev pub lastStep : ℕ
 lastStep = maxThresholds - 1
 
+abbrev pub widestAt : ℕ
+widestAt = maxThresholds
+
 abbrev pub shiftAt : ℕ
-shiftAt = maxThresholds
+shiftAt = suc widestAt
 
 abbrev pub kindAt : ℕ
 kindAt = suc shiftAt
@@ -36,10 +39,7 @@ ladderLength = firstCell + cellCount
 abbrev pub shiftEnd : ℕ
 shiftEnd = 32
 
--- what the cells are: of one step each, or one for each metre, which holds the bucket itself
-abbrev pub alone : ℕ
-alone = 1
-
+-- what the cells are where there is one for each metre, which holds the bucket itself
 abbrev pub exact : ℕ
 exact = 2
 
@@ -63,7 +63,6 @@ unfoldable pub cellsOf : List ℕ → Cells
 cellsOf ladder =
     record {
       exact = eqb (getD ladder kindAt 0) exact;
-      lone = eqb (getD ladder kindAt 0) alone;
       shift = shiftOf ladder;
       cap = capOf (greatestOf ladder) (2 ^ shiftOf ladder);
       greatest = greatestOf ladder;
@@ -78,18 +77,17 @@ unfoldable pub byHalves : List ℕ → ℕ → ℕ
 byHalves ladder d =
     narrowed ladder d 1 (narrowed ladder d 1 (narrowed ladder d 2 (narrowed ladder d 4 (narrowed ladder d 8 (narrowed ladder d 16 (narrowed ladder d 32 0))))))
 
--- the step that the cell of d names
+-- the step that the cell of d names; none where it is the number of all steps
 unfoldable pub namedBy : List ℕ → ℕ → ℕ
 namedBy ladder d = getD ladder (firstCell + cellOf (greatestOf ladder) (2 ^ shiftOf ladder) d) 0
 
--- the steps that do not admit d, by the one step of its cell
-unfoldable pub byCell : List ℕ → ℕ → ℕ
-byCell ladder d =
-    cond (ltb (greatestOf ladder) d) maxThresholds (narrowed ladder d 1 (namedBy ladder d % maxThresholds))
+-- the steps that do not admit d, where one step alone need be looked at
+unfoldable pub byStep : List ℕ → ℕ → ℕ → ℕ
+byStep ladder d step = cond (ltb (greatestOf ladder) d) maxThresholds (narrowed ladder d 1 step)
 
--- the steps that do not admit d, by its cell where cells have one step each
+-- the steps that do not admit d, by the step of its cell, or by halving where it names none
 unfoldable pub bySteps : List ℕ → ℕ → ℕ
-bySteps ladder d = cond (eqb (getD ladder kindAt 0) alone) (byCell ladder d) (byHalves ladder d)
+bySteps ladder d = cond (ltb (namedBy ladder d) maxThresholds) (byStep ladder d (namedBy ladder d)) (byHalves ladder d)
 
 -- what the cell of so many metres holds, where a cell is of one metre and the last one without end
 unfoldable pub placeIn : List ℕ → ℕ → ℕ
@@ -113,9 +111,9 @@ pub record Bracket (ladder : List ℕ) (d pos n : ℕ) : Type 0 where
 pub record Level (ladder : List ℕ) : Type 0 where
   pub level : (j k : ℕ) → j ≤ k → k < maxThresholds → getD ladder j 0 ≤ getD ladder k 0
 
--- the cell of d names the one step that need be looked at, if d is within the greatest threshold
+-- the cell of d names the one step that need be looked at, or none, if d is within the greatest threshold
 pub record Celled (ladder : List ℕ) : Type 0 where
-  pub names : (d : ℕ) → d ≤ greatestOf ladder → Bracket ladder d (namedBy ladder d) alone
+  pub names : (d : ℕ) → d ≤ greatestOf ladder → namedBy ladder d < maxThresholds → Bracket ladder d (namedBy ladder d) 1
 
 -- the cell of each metre holds its bucket, and the last one is beyond the greatest threshold
 pub record Placed (ladder : List ℕ) : Type 0 where
@@ -129,5 +127,5 @@ pub record LadderOf (ts ladder : List ℕ) : Type 0 where
   pub at : (k : ℕ) → k < length ts → getD ladder k 0 ≡ getD ts k 0
   pub small : (k : ℕ) → k < length ts → getD ts k 0 < 4294967296
   pub level : Level ladder
-  pub celled : getD ladder kindAt 0 ≡ alone → Celled ladder
+  pub celled : (getD ladder kindAt 0 ≡ exact → ⊥) → Celled ladder
   pub placed : getD ladder kindAt 0 ≡ exact → Placed ladder

@@ -4,7 +4,7 @@ use mathlib.Core.Path.{_≡_}
 use Prim.Native.Nat.{ℕ, _+_, _-_, _≤_, _<_, min}
 use lib.ListN.{length, getD}
 use Rattle.model.specs.Limits.{maxThresholds}
-use Rattle.range_query.specs.Ladder.{kindAt, firstCell, lastCell, ladderLength, alone, exact, greatestOf, Bracket, Level, Celled, Placed}
+use Rattle.range_query.specs.Ladder.{kindAt, firstCell, lastCell, ladderLength, exact, greatestOf, Bracket, Level, Celled, Placed}
 
 -- the first n steps are the thresholds, the greatest repeated behind them
 pub record SpreadSteps (ts : List ℕ) (n : ℕ) (ladder : List ℕ) : Type 0 where
@@ -22,6 +22,12 @@ pub record Skipped (ladder : List ℕ) (metres c end r : ℕ) : Type 0 where
 pub record Alone (ladder : List ℕ) (c end : ℕ) : Type 0 where
   pub ahead : (d : ℕ) → d < end → d ≤ greatestOf ladder → (j : ℕ) → c < j → j < maxThresholds → d ≤ getD ladder j 0
 
+-- a cell names the one step that need be looked at for what lies in it, or none
+pub record Names (ladder : List ℕ) (c end r : ℕ) : Type 0 where
+  pub to-steps : r ≤ maxThresholds
+  pub is : r < maxThresholds → r ≡ c
+  pub lone : r < maxThresholds → Level ladder → Alone ladder c end
+
 -- the end of a cell: that of the last one is beyond the greatest threshold
 pub record CellEnd (k last next greatest end : ℕ) : Type 0 where
   pub inner : k < last → end ≡ next
@@ -35,7 +41,7 @@ pub record StepsKept (old new : List ℕ) : Type 0 where
 -- the cells are filled, as r says, and are right where the steps do not fall
 pub record CellsFilled (old : List ℕ) (r : ℕ) (new : List ℕ) : Type 0 where
   pub kept : StepsKept old new
-  pub celled : r ≡ alone → Level old → Celled new
+  pub celled : (r ≡ exact → ⊥) → Level old → Celled new
   pub placed : r ≡ exact → Level old → Placed new
 
 -- the cell of each metre holds its bucket, where the steps do not fall

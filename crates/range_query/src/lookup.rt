@@ -6,7 +6,7 @@ ghost use Prim.Native.Nat.{ℕ, _+_, _/_, _^_, _≤_, _<_};
 ghost use lib.Dec.{leb, ltb};
 ghost use lib.ListN.{length, getD};
 ghost use Rattle.model.specs.Limits.{maxThresholds};
-ghost use Rattle.range_query.specs.Ladder.{shiftEnd, ladderLength, capOf, cellsOf, narrowed, byHalves, byCell, bySteps, placeIn, foundIn, bucketIn, LadderOf};
+ghost use Rattle.range_query.specs.Ladder.{shiftEnd, ladderLength, capOf, cellsOf, narrowed, byHalves, byStep, bySteps, placeIn, foundIn, bucketIn, LadderOf};
 use model::Thresholds;
 use model::lesser;
 
@@ -16,10 +16,13 @@ pub const STEPS: usize = Thresholds::MAX_THRESHOLDS;
 // The step with the greatest threshold.
 pub const LAST_STEP: usize = STEPS - 1;
 
-// Behind the steps stand a shift, what the cells are, and the cells. Where the greatest threshold is small there is a cell for each
-// metre, the last one without end: the number of steps that do not admit so many metres. Else there is a cell for each 2^shift metres up
-// to the greatest threshold, the last one without end: the number of its step. Where a cell cannot do with one step there are none.
-pub const SHIFT_AT: usize = STEPS;
+// Behind the steps stand the widest gap between two thresholds or before the first, a shift, what the cells are, and the cells. Where the
+// greatest threshold is small there is a cell for each metre, the last one without end: the number of steps that do not admit so many
+// metres. Else there is a cell for each 2^shift metres up to the greatest threshold, the last one without end: the number of its step,
+// or that of all steps where one step does not do.
+pub const WIDEST_AT: usize = STEPS;
+
+pub const SHIFT_AT: usize = WIDEST_AT + 1;
 
 pub const KIND_AT: usize = SHIFT_AT + 1;
 
@@ -29,8 +32,8 @@ pub const CELLS: usize = 8192;
 
 pub const LADDER: usize = FIRST_CELL + CELLS;
 
-// Cells have one step each.
-pub const ALONE: u32 = 1;
+// Cells have one step each, or tell that one does not do.
+pub const BY_STEP: u32 = 1;
 
 // There is a cell for each metre.
 pub const EXACT: u32 = 2;
@@ -40,11 +43,10 @@ pub const LAST_CELL: usize = CELLS - 1;
 // A cell is of 2^31 metres at most.
 pub const SHIFT_END: u32 = 32;
 
-// What is read of a ladder once: whether there is a cell for each metre, whether there are cells of one step each, their shift, where
-// the last one starts (or the greatest threshold where that comes first), and the greatest threshold.
+// What is read of a ladder once: whether there is a cell for each metre, the shift of the cells, where the last one starts (or the
+// greatest threshold where that comes first), and the greatest threshold.
 pub struct Cells {
     pub exact: bool,
-    pub lone: bool,
     pub shift: u32,
     pub cap: u64,
     pub greatest: u64,
@@ -82,10 +84,8 @@ pub(crate) fn read_cells(ladder: &[u32]) -> Cells
     let shift = ladder[SHIFT_AT] % SHIFT_END;
     let greatest = ladder[LAST_STEP] as u64;
     let cap = cap_of(greatest, width_of(shift));
-    let kind = ladder[KIND_AT];
     Cells {
-        exact: kind == EXACT,
-        lone: kind == ALONE,
+        exact: ladder[KIND_AT] == EXACT,
         shift,
         cap,
         greatest,
@@ -121,24 +121,24 @@ fn by_halves(ladder: &[u32], d: u64) -> usize
     narrow(ladder, d, 1, by_1)
 }
 
-// The same where cells have one step each: only that of the cell of d is looked at.
-fn by_cell(ladder: &[u32], cells: Cells, d: u64) -> usize
-    requires { ⌜ (length (now ladder) ≡ ladderLength) × (cells ≡ cellsOf (now ladder)) ⌝ }
-    ensures { λ r. ⌜ r ≡ byCell (now (ladder .entry)) d ⌝ }
+// The same where one step alone need be looked at, and beyond the greatest threshold none.
+fn by_step(ladder: &[u32], cells: Cells, d: u64, step: usize) -> usize
+    requires { ⌜ (length (now ladder) ≡ ladderLength) × (cells ≡ cellsOf (now ladder)) × (step < maxThresholds) ⌝ }
+    ensures { λ r. ⌜ r ≡ byStep (now (ladder .entry)) d step ⌝ }
 {
-    let cell = cell_of(lesser(d, cells.cap), cells.shift);
-    let step = ladder[FIRST_CELL + cell] as usize % STEPS;
     let found = narrow(ladder, d, 1, step);
     if cells.greatest < d { STEPS } else { found }
 }
 
-// The same by what was read of the ladder, where there is no cell for each metre.
+// The same by the cell of d, or by halving where one step does not do.
 pub(crate) fn by_steps(ladder: &[u32], cells: Cells, d: u64) -> usize
     requires { ⌜ (length (now ladder) ≡ ladderLength) × (cells ≡ cellsOf (now ladder)) ⌝ }
     ensures { λ r. ⌜ r ≡ bySteps (now (ladder .entry)) d ⌝ }
 {
-    if cells.lone {
-        return by_cell(ladder, cells, d);
+    let cell = cell_of(lesser(d, cells.cap), cells.shift);
+    let step = ladder[FIRST_CELL + cell] as usize;
+    if step < STEPS {
+        return by_step(ladder, cells, d, step);
     }
     by_halves(ladder, d)
 }
@@ -153,7 +153,7 @@ pub(crate) fn place_in(ladder: &[u32], d: u64) -> usize
 }
 
 // The same by what was read of the ladder.
-fn find(ladder: &[u32], cells: Cells, d: u64) -> usize
+pub(crate) fn find(ladder: &[u32], cells: Cells, d: u64) -> usize
     requires { ⌜ (length (now ladder) ≡ ladderLength) × (cells ≡ cellsOf (now ladder)) ⌝ }
     ensures { λ r. ⌜ r ≡ foundIn (now (ladder .entry)) d ⌝ }
 {

@@ -17,6 +17,8 @@ use crate::lookup::LADDER;
 use crate::lookup::by_steps;
 use crate::lookup::place_in;
 use crate::lookup::read_cells;
+use crate::own::add_own;
+use crate::own::is_own;
 use edge_pair::EdgePair;
 use edge_pair::change_from;
 use edge_pair::to_end;
@@ -88,7 +90,8 @@ fn add_row_by_steps(
     }
 }
 
-// The same for any ladder. There are two loops, for in a single one the compiler leaves the test whether the two edges are one.
+// The same for any ladder. There are two loops, so that the first is without the tests of the second: the compiler then takes from it
+// the test whether the two edges are one.
 fn add_row(
     edges: EdgePair,
     x: u32,
@@ -109,7 +112,7 @@ fn add_row(
 }
 
 // Adds to the total at each threshold how many ordered pairs of an event of a run on the first edge and one of a run on the second lie
-// within it. Nothing is added if the ladder lent is not as long as one.
+// within it. Nothing is added if the ladder lent is not as long as one. Of a run with itself each two events are looked at once.
 pub fn add_pairs(edges: EdgePair, xs: &[u32], ys: &[u32], ladder: &[u32], totals: &mut [u64])
     ensures { λ _. ⌜ (length (now (ladder .entry)) ≡ ladderLength → Added maxThresholds (tallied (now (ladder .entry)) edges (now (xs .entry)) (now (ys .entry))) (now (totals .entry)) (now (totals .exit))) × ((ts : List ℕ) → LadderOf ts (now (ladder .entry)) → Added (length ts) (λ k. reachedPairs (getD ts k 0) edges (now (xs .entry)) (now (ys .entry))) (now (totals .entry)) (now (totals .exit))) ⌝ }
 {
@@ -117,6 +120,10 @@ pub fn add_pairs(edges: EdgePair, xs: &[u32], ys: &[u32], ladder: &[u32], totals
         return;
     }
     let cells = read_cells(ladder);
+    if is_own(edges, xs, ys) {
+        add_own(edges, xs, ladder, cells, totals);
+        return;
+    }
     let mut i = 0;
     while i < xs.len() {
         let end = equals_end(xs, i);

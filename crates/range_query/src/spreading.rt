@@ -6,8 +6,8 @@ ghost use lib.ListN.{length};
 ghost use Rattle.model.specs.Limits.{maxThresholds};
 ghost use Rattle.edge_pair.specs.Offsets.{Ordered};
 ghost use Rattle.range_query.specs.Ladder.{lastStep, ladderLength, Level, LadderOf};
-ghost use Rattle.range_query.specs.Spreading.{SpreadSteps, Skipped, Alone, CellEnd, CellsFilled, PlacesFilled};
-use crate::lookup::ALONE;
+ghost use Rattle.range_query.specs.Spreading.{SpreadSteps, Skipped, Alone, Names, CellEnd, CellsFilled, PlacesFilled};
+use crate::lookup::BY_STEP;
 use crate::lookup::CELLS;
 use crate::lookup::EXACT;
 use crate::lookup::FIRST_CELL;
@@ -17,10 +17,13 @@ use crate::lookup::LAST_CELL;
 use crate::lookup::LAST_STEP;
 use crate::lookup::SHIFT_AT;
 use crate::lookup::STEPS;
+use crate::lookup::WIDEST_AT;
 use crate::lookup::cell_of;
 use crate::lookup::read_cells;
 use crate::lookup::width_of;
 use model::apart;
+use model::greater;
+use model::less;
 use model::lesser;
 
 // Spreads the thresholds over all steps: behind the greatest it is repeated.
@@ -48,18 +51,49 @@ fn least_gap(thresholds: &[u32]) -> u64 {
     gap
 }
 
-// The greatest shift up to 31 whose power of two is not above a gap of at least 1.
-fn shift_within(gap: u64) -> u32 {
+// The greatest difference of two neighbouring thresholds, or the first threshold.
+fn widest_gap(thresholds: &[u32]) -> u32 {
+    let mut gap = 0;
+    let mut before = 0;
+    let mut k = 0;
+    while k < thresholds.len() {
+        let next = thresholds[k];
+        gap = greater(gap as u64, less(next as u64, before as u64)) as u32;
+        before = next;
+        k += 1;
+    }
+    gap
+}
+
+// The least shift up to 31 after which so many metres are below an end.
+fn least_shift(metres: u64, end: u64) -> u32 {
     let mut shift = 0;
-    let mut rest = gap / 2;
+    let mut rest = metres;
     while shift < 31 {
-        if rest == 0 {
+        if rest < end {
             return shift;
         }
         rest = rest / 2;
         shift += 1;
     }
     shift
+}
+
+// The shift by which no two thresholds are in one cell, if there is such a shift, and else that of the smallest cells up to the greatest
+// threshold. The cells of the first are not wider than the least gap, and the last of them starts behind all thresholds but one.
+fn shift_for(thresholds: &[u32]) -> u32 {
+    let count = thresholds.len();
+    if count < 2 {
+        return 31;
+    }
+    let apart = least_shift(least_gap(thresholds), 2);
+    let smallest = least_shift(thresholds[count - 1] as u64, CELLS as u64);
+    let without_last = least_shift(thresholds[count - 2] as u64, LAST_CELL as u64);
+    if without_last <= apart {
+        apart
+    } else {
+        smallest
+    }
 }
 
 // The first step from number c on that is not below so many metres, or the end.
@@ -100,7 +134,15 @@ fn cell_end(k: usize, last: usize, next: u64, greatest: u64) -> u64
     if k == last { greatest + 1 } else { next }
 }
 
-// Writes cells of one step each by the steps and the shift, and tells so; 0 where one step does not do.
+// What a cell holds: the number of the one step that need be looked at, or that of all steps.
+fn named_step(ladder: &[u32], c: usize, end: u64) -> usize
+    requires { ⌜ (length (now ladder) ≡ ladderLength) × (c ≤ lastStep) ⌝ }
+    ensures { λ r. ⌜ Names (now (ladder .entry)) c end r ⌝ }
+{
+    if is_alone(ladder, c, end) { c } else { STEPS }
+}
+
+// Writes cells of one step each by the steps and the shift, and tells so.
 fn fill_cells(ladder: &mut [u32]) -> u32
     requires { ⌜ length (now ladder) ≡ ladderLength ⌝ }
     ensures { λ r. ⌜ CellsFilled (now (ladder .entry)) r (now (ladder .exit)) ⌝ }
@@ -115,14 +157,12 @@ fn fill_cells(ladder: &mut [u32]) -> u32
         c = skip(ladder, start, c, LAST_STEP);
         let next = start + width;
         let end = cell_end(k, last, next, cells.greatest);
-        if !is_alone(ladder, c, end) {
-            return 0;
-        }
-        ladder[FIRST_CELL + k] = c as u32;
+        let step = named_step(ladder, c, end);
+        ladder[FIRST_CELL + k] = step as u32;
         start = next;
         k += 1;
     }
-    ALONE
+    BY_STEP
 }
 
 // Writes a cell for each metre by the steps.
@@ -166,6 +206,7 @@ pub fn spread(thresholds: &[u32], ladder: &mut [u32])
         return;
     }
     spread_steps(thresholds, ladder);
-    ladder[SHIFT_AT] = shift_within(least_gap(thresholds));
+    ladder[WIDEST_AT] = widest_gap(thresholds);
+    ladder[SHIFT_AT] = shift_for(thresholds);
     ladder[KIND_AT] = fill(ladder);
 }

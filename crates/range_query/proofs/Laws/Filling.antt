@@ -8,8 +8,9 @@ use native.Mathlib.Numerals.{add-one}
 use native.Mathlib.Omega.{arith}
 use lib.ListN.{length, getD, set, length-set}
 use lib.Seq.{getD-set-same, getD-set-other}
-use Rattle.range_query.specs.Ladder.{lastStep, shiftAt, kindAt, firstCell, ladderLength, alone, greatestOf, shiftOf, capOf, cellOf, namedBy, Bracket, Level, Celled}
-use Rattle.range_query.specs.Spreading.{Skipped, Alone, CellEnd, StepsKept, CellsFilled}
+use Rattle.model.specs.Limits.{maxThresholds}
+use Rattle.range_query.specs.Ladder.{lastStep, shiftAt, kindAt, firstCell, ladderLength, exact, greatestOf, shiftOf, capOf, cellOf, namedBy, Bracket, Level, Celled}
+use Rattle.range_query.specs.Spreading.{Skipped, Alone, Names, CellEnd, StepsKept, CellsFilled}
 use Rattle.range_query.proofs.Laws.Cells.{last-cell, cell-to, in-cell}
 
 -- nothing stands behind the last step
@@ -55,20 +56,20 @@ pub celled-kept : {old new : List ℕ} → StepsKept old new → ((k : ℕ) → 
 unfolding namedBy
 celled-kept {old} {new} kept same w =
     record {
-      names = λ d l. rw (kept .at lastStep (omega arith), kept .at shiftAt (omega arith), same (cellOf (greatestOf old) (2 ^ shiftOf old) d)) (bracket-kept kept (w .names d (rw (kept .at lastStep (omega arith)) at l)));
+      names = λ d l. rw (kept .at lastStep (omega arith), kept .at shiftAt (omega arith), same (cellOf (greatestOf old) (2 ^ shiftOf old) d)) (λ named. bracket-kept kept (w .names d (rw (kept .at lastStep (omega arith)) at l) named));
     }
 
--- the first n cells name the one step that need be looked at, if the steps do not fall; steps and shift are kept
+-- the first n cells name the one step that need be looked at, or none, if the steps do not fall; steps and shift are kept
 pub record CellsTo (old : List ℕ) (width n : ℕ) (new : List ℕ) : Type 0 where
   pub kept : StepsKept old new
-  pub names : Level old → (d : ℕ) → cellOf (greatestOf old) width d < n → d ≤ greatestOf old → Bracket old d (getD new (firstCell + cellOf (greatestOf old) width d) 0) alone
+  pub names : Level old → (d : ℕ) → cellOf (greatestOf old) width d < n → d ≤ greatestOf old → getD new (firstCell + cellOf (greatestOf old) width d) 0 < maxThresholds → Bracket old d (getD new (firstCell + cellOf (greatestOf old) width d) 0) 1
 
 -- no cell yet
 cells-none : (old : List ℕ) (width : ℕ) → CellsTo old width 0 old
 cells-none old width = record { kept = kept-none old; names = λ up d h. absurd (omega arith) }
 
 -- one cell more
-cells-more : {old new : List ℕ} (width n c : ℕ) → CellsTo old width n new → firstCell + n < length old → (Level old → (d : ℕ) → cellOf (greatestOf old) width d ≡ n → d ≤ greatestOf old → Bracket old d c alone) → CellsTo old width (n + 1) (set new (firstCell + n) c)
+cells-more : {old new : List ℕ} (width n c : ℕ) → CellsTo old width n new → firstCell + n < length old → (Level old → (d : ℕ) → cellOf (greatestOf old) width d ≡ n → d ≤ greatestOf old → c < maxThresholds → Bracket old d c 1) → CellsTo old width (n + 1) (set new (firstCell + n) c)
 cells-more {old} {new} width n c w in-list here =
     record {
       kept = kept-set (firstCell + n) c (omega arith) (w .kept);
@@ -78,7 +79,7 @@ cells-more {old} {new} width n c w in-list here =
     same : getD (set new (firstCell + n) c) (firstCell + n) 0 ≡ c
     same = getD-set-same new (firstCell + n) c 0 (omega (arith, w .kept .long))
 
-    go : Level old → (d : ℕ) → d ≤ greatestOf old → Dec (cellOf (greatestOf old) width d < n) → cellOf (greatestOf old) width d < n + 1 → Bracket old d (getD (set new (firstCell + n) c) (firstCell + cellOf (greatestOf old) width d) 0) alone
+    go : Level old → (d : ℕ) → d ≤ greatestOf old → Dec (cellOf (greatestOf old) width d < n) → cellOf (greatestOf old) width d < n + 1 → getD (set new (firstCell + n) c) (firstCell + cellOf (greatestOf old) width d) 0 < maxThresholds → Bracket old d (getD (set new (firstCell + n) c) (firstCell + cellOf (greatestOf old) width d) 0) 1
     go up d l (yes p) h =
         rw (getD-set-other new (firstCell + n) (firstCell + cellOf (greatestOf old) width d) c 0 (λ e. omega arith)) (w .names up d p l)
     go up d l (no p) h =
@@ -98,13 +99,13 @@ filling-none old width last =
 
 -- cells of so many metres up to the last
 module _ {old : List ℕ} (width last : ℕ) (long : length old ≡ ladderLength) (some : 1 ≤ width) (last-is : last ≡ capOf (greatestOf old) width / width) where
-  pub filling-more : {new : List ℕ} {c c′ start k next greatest end : ℕ} → Filling old width last c start k new → k ≤ last → Skipped new start c lastStep c′ → next ≡ start + width → greatest ≡ greatestOf old → CellEnd k last next greatest end → (Level new → Alone new c′ end) → Filling old width last c′ next (k + 1) (set new (firstCell + k) c′)
-  filling-more {new} {c} {c′} {start} {k} {next} {greatest} {end} w h skipped e g ends lone =
+  pub filling-more : {new : List ℕ} {c c′ start k next greatest end step : ℕ} → Filling old width last c start k new → k ≤ last → Skipped new start c lastStep c′ → next ≡ start + width → greatest ≡ greatestOf old → CellEnd k last next greatest end → Names new c′ end step → Filling old width last c′ next (k + 1) (set new (firstCell + k) step)
+  filling-more {new} {c} {c′} {start} {k} {next} {greatest} {end} {step} w h skipped e g ends told =
       record {
         begins = e ∙ (rw (add-one k) (ap (λ x. x + width) (w .begins) ∙ sym (suc-mul k width)));
         in-steps = skipped .in-list;
         passed = λ j l. omega (arith, below j l (decLt j c));
-        cells = cells-more width k c′ (w .cells) (omega (arith, last-cell (greatestOf old) width some)) here;
+        cells = cells-more width k step (w .cells) (omega (arith, last-cell (greatestOf old) width some)) here;
       }
     where
       below : (j : ℕ) → j < c′ → Dec (j < c) → getD old j 0 < start
@@ -112,27 +113,24 @@ module _ {old : List ℕ} (width last : ℕ) (long : length old ≡ ladderLength
       below j l (no p) =
           rw (← w .cells .kept .at j (omega (arith, skipped .in-list))) (skipped .passed j (omega arith) l)
 
-      here : Level old → (d : ℕ) → cellOf (greatestOf old) width d ≡ k → d ≤ greatestOf old → Bracket old d c′ alone
-      here up d f l =
+      here : Level old → (d : ℕ) → cellOf (greatestOf old) width d ≡ k → d ≤ greatestOf old → step < maxThresholds → Bracket old d step 1
+      here up d f l named =
           let inside = in-cell (greatestOf old) width some {k = k} last-is (e ∙ ap (λ x. x + width) (w .begins)) (rw g at ends) f l in
-          let a = lone (level-kept (w .cells .kept) up) in
-          record {
+          let a = told .lone named (level-kept (w .cells .kept) up) in
+          rw (told .is named)
+          (record {
             fits = omega (arith, skipped .in-list);
             passed = λ j b. omega (arith, below j b (decLt j c), inside .0, w .begins);
             ahead = λ j b m. rw (← w .cells .kept .at j (omega arith)) (a .ahead d (inside .1) (rw (w .cells .kept .at lastStep (omega arith)) l) j (omega arith) m);
-          }
+          })
 
   -- all cells
-  pub filling-done : {new : List ℕ} {c start k : ℕ} → Filling old width last c start k new → last < k → width ≡ 2 ^ shiftOf old → CellsFilled old alone new
+  pub filling-done : {new : List ℕ} {c start k r : ℕ} → Filling old width last c start k new → last < k → width ≡ 2 ^ shiftOf old → (r ≡ exact → ⊥) → CellsFilled old r new
   unfolding namedBy
-  filling-done {new} {c} {start} {k} w all wide =
-      record { kept = w .cells .kept; celled = λ e up. record { names = λ d l. named up d l }; placed = λ e. absurd (omega (arith, e)) }
+  filling-done {new} {c} {start} {k} w all wide plain =
+      record { kept = w .cells .kept; celled = λ e up. record { names = λ d l. named up d l }; placed = λ e. absurd (plain e) }
     where
-      named : Level old → (d : ℕ) → d ≤ greatestOf new → Bracket new d (namedBy new d) alone
+      named : Level old → (d : ℕ) → d ≤ greatestOf new → namedBy new d < maxThresholds → Bracket new d (namedBy new d) 1
       named up d l =
           rw (w .cells .kept .at lastStep (omega arith), w .cells .kept .at shiftAt (omega arith), ← wide)
-          (bracket-kept (w .cells .kept) (w .cells .names up d (omega (arith, cell-to (greatestOf old) width some d)) (rw (w .cells .kept .at lastStep (omega arith)) at l)))
-
--- nothing filled
-pub filling-not : {old new : List ℕ} {width last c start k : ℕ} → Filling old width last c start k new → CellsFilled old 0 new
-filling-not w = record { kept = w .cells .kept; celled = λ e. absurd (omega (arith, e)); placed = λ e. absurd (omega (arith, e)) }
+          (λ in-steps. bracket-kept (w .cells .kept) (w .cells .names up d (omega (arith, cell-to (greatestOf old) width some d)) (rw (w .cells .kept .at lastStep (omega arith)) at l) in-steps))

@@ -4,13 +4,13 @@ use mathlib.Core.List.{List}
 use mathlib.Core.Path.{_≡_, refl, sym, ap, ap₂, _∙_}
 use Prim.Native.Nat.{ℕ, suc, _+_, _-_, _/_, _%_, _^_, _≤_, _<_, min}
 use native.Mathlib.Decide.{ℕ-discrete, decLt}
-use native.Mathlib.Nat.{mod-eq-of-lt, mod-lt, one-le-pow}
+use native.Mathlib.Nat.{mod-lt, one-le-pow}
 use native.Mathlib.Omega.{arith}
 use borrow.Author.Tests.{le-leb, lt-leb, lt-ltb, le-ltb, eq-eqb, ne-eqb}
 use lib.Dec.{eqb, leb, ltb}
 use lib.ListN.{length, getD}
 use Rattle.model.specs.Limits.{maxThresholds}
-use Rattle.range_query.specs.Ladder.{lastStep, shiftAt, kindAt, lastCell, shiftEnd, alone, exact, greatestOf, shiftOf, capOf, cellOf, cellsOf, narrowed, byHalves, namedBy, byCell, bySteps, placeIn, foundIn, bucketIn, Bracket, Level, Celled, Placed, LadderOf}
+use Rattle.range_query.specs.Ladder.{lastStep, shiftAt, kindAt, lastCell, shiftEnd, exact, greatestOf, shiftOf, capOf, cellOf, cellsOf, narrowed, byHalves, namedBy, byStep, bySteps, placeIn, foundIn, bucketIn, Bracket, Level, Celled, Placed, LadderOf}
 use Rattle.range_query.specs.declared.lookup.Cells.{Cells}
 use Rattle.range_query.proofs.Laws.Cells.{last-cell, cell-to}
 
@@ -35,10 +35,6 @@ module _ (ladder : List ℕ) {cells : Cells} (told : cells ≡ cellsOf ladder) w
   pub found-steps : cells .exact ≡ false → (d : ℕ) → foundIn ladder d ≡ bySteps ladder d
   unfolding foundIn
   found-steps h d = rw (← read-exact, h) refl
-
-  pub read-lone : cells .lone ≡ eqb (getD ladder kindAt 0) alone
-  unfolding cellsOf
-  read-lone = ap (λ (c : Cells). c .lone) told
 
   pub read-greatest : cells .greatest ≡ greatestOf ladder
   unfolding cellsOf
@@ -133,21 +129,19 @@ module _ {ladder : List ℕ} (up : Level ladder) (d : ℕ) where
       let by-1 = bracket-half 1 1 (omega arith) (omega arith) by-2 in
       bracket-found ladder d (bracket-half 1 0 (omega arith) (omega arith) by-1)
 
-  cell-bucket : Celled ladder → Bucket ladder d (byCell ladder d)
-  unfolding byCell
-  cell-bucket cells = go (decLt (greatestOf ladder) d)
+  cell-bucket : Celled ladder → namedBy ladder d < maxThresholds → Bucket ladder d (byStep ladder d (namedBy ladder d))
+  unfolding byStep
+  cell-bucket cells named = go (decLt (greatestOf ladder) d)
     where
-      go : Dec (greatestOf ladder < d) → Bucket ladder d (cond (ltb (greatestOf ladder) d) maxThresholds (narrowed ladder d 1 (namedBy ladder d % maxThresholds)))
+      go : Dec (greatestOf ladder < d) → Bucket ladder d (cond (ltb (greatestOf ladder) d) maxThresholds (narrowed ladder d 1 (namedBy ladder d)))
       go (yes p) =
           rw (lt-ltb (greatestOf ladder) d p)
           (record {
             admits = λ k l. lt-leb maxThresholds k l ∙ sym (lt-leb d (getD ladder k 0) (omega (arith, up .level k lastStep (omega arith) (omega arith))));
           })
       go (no p) =
-          let named = cells .names d (omega arith) in
-          let is : namedBy ladder d % maxThresholds ≡ namedBy ladder d = mod-eq-of-lt (omega (arith, named .fits)) in
-          rw (le-ltb (greatestOf ladder) d (omega arith), is)
-          (bracket-found ladder d (bracket-half 1 0 (omega arith) (omega arith) named))
+          rw (le-ltb (greatestOf ladder) d (omega arith))
+          (bracket-found ladder d (bracket-half 1 0 (omega arith) (omega arith) (cells .names d (omega arith) named)))
 
   -- beyond the last cell nothing is admitted, as in it
   place-bucket : Placed ladder → Bucket ladder d (placeIn ladder d)
@@ -171,10 +165,10 @@ bucket-right {ts} {ladder} w d k h =
     bucket-found ladder d k (omega (arith, w .few))
     ∙ rw (← w .at k h) (at-once (ℕ-discrete (getD ladder kindAt 0) exact) .admits k (omega (arith, w .few)))
   where
-    go : Dec (getD ladder kindAt 0 ≡ alone) → Bucket ladder d (bySteps ladder d)
-    go (yes p) = rw (eq-eqb (getD ladder kindAt 0) alone p) (cell-bucket (w .level) d (w .celled p))
-    go (no p) = rw (ne-eqb (getD ladder kindAt 0) alone p) (halves-bucket (w .level) d)
+    go : (getD ladder kindAt 0 ≡ exact → ⊥) → Dec (namedBy ladder d < maxThresholds) → Bucket ladder d (bySteps ladder d)
+    go plain (yes p) = rw (lt-ltb (namedBy ladder d) maxThresholds p) (cell-bucket (w .level) d (w .celled plain) p)
+    go plain (no p) = rw (le-ltb (namedBy ladder d) maxThresholds (omega arith)) (halves-bucket (w .level) d)
 
     at-once : Dec (getD ladder kindAt 0 ≡ exact) → Bucket ladder d (foundIn ladder d)
     at-once (yes p) = rw (eq-eqb (getD ladder kindAt 0) exact p) (place-bucket (w .level) d (w .placed p))
-    at-once (no p) = rw (ne-eqb (getD ladder kindAt 0) exact p) (go (ℕ-discrete (getD ladder kindAt 0) alone))
+    at-once (no p) = rw (ne-eqb (getD ladder kindAt 0) exact p) (go p (decLt (namedBy ladder d) maxThresholds))

@@ -1,6 +1,6 @@
 -- The cells of single metres are filled one after the other: each holds the bucket of its metres.
 use mathlib.Core.List.{List}
-use mathlib.Core.Path.{_≡_}
+use mathlib.Core.Path.{_≡_, refl}
 use Prim.Native.Nat.{ℕ, _+_, _≤_, _<_}
 use native.Mathlib.Decide.{decLt}
 use native.Mathlib.Omega.{arith}
@@ -60,7 +60,7 @@ pub places-filled : {old new : List ℕ} → PlacesFilled old new → greatestOf
 places-filled w few =
     record {
       kept = w .kept;
-      celled = λ e. absurd (omega (arith, e));
+      celled = λ e. absurd (e refl);
       placed = λ e up. record { beyond = rw (w .kept .at lastStep (omega arith)) few; places = λ d l. bracket-kept (w .kept) (w .places up d l) };
     }
 

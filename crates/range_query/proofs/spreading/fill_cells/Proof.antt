@@ -1,11 +1,10 @@
 -- The cells so far are right, and every step before the one in hand is below the next cell.
 use mathlib.Core.Path.{_≡_, refl, ap, _∙_}
-use Prim.Native.Nat.{_+_, _-_, _/_, _^_, _≤_, _<_}
+use Prim.Native.Nat.{ℕ, _+_, _-_, _/_, _^_, _≤_, _<_}
 use native.Mathlib.Omega.{arith}
-use borrow.Author.Tests.{not-false}
 use Rattle.range_query.specs.Ladder.{lastStep, lastCell, greatestOf, shiftOf, capOf}
 use Rattle.range_query.proofs.Laws.Cells.{last-cell, starts-within}
-use Rattle.range_query.proofs.Laws.Filling.{Filling, filling-none, filling-more, filling-done, filling-not}
+use Rattle.range_query.proofs.Laws.Filling.{Filling, filling-none, filling-more, filling-done}
 use Rattle.range_query.proofs.Laws.Lookup.{shift-to, read-shift, read-greatest, last-is}
 use borrow.Author.Needs.{needs}
 use Rattle.range_query.proofs.spreading.fill_cells.Statement.{statement}
@@ -17,6 +16,18 @@ Inv-loop ladder₀ cells width last c₀ start₀ k₀ ladder c start k = Fillin
 abbrev μ-loop : tie.MeasureT-loop
 μ-loop ladder₀ cells width last c₀ start₀ k₀ ladder c start k = last + 1 - k
 
+wide : (c : tie.After-cell-of Inv-loop μ-loop) → c .before .width-of .result ≡ 2 ^ shiftOf (c .before .before .before .before .before .args .ladder .now)
+wide c = c .before .width-of .ensures .0 ∙ ap (λ (n : ℕ). 2 ^ n) (read-shift (c .before .before .before .before .before .args .ladder .now) (c .before .before .read-cells .ensures))
+
+last : (c : tie.After-cell-of Inv-loop μ-loop) → c .cell-of .result ≡ capOf (greatestOf (c .before .before .before .before .before .args .ladder .now)) (c .before .width-of .result) / c .before .width-of .result
+last c = rw (wide c) (last-is (c .before .before .before .before .before .args .ladder .now) (c .before .before .read-cells .ensures) (c .cell-of .ensures))
+
+small : (c : tie.After-cell-of Inv-loop μ-loop) → greatestOf (c .before .before .before .before .before .args .ladder .now) < 4294967296
+small c = c .before .before .before .before .slice-known .given lastStep .fits
+
+in-list : (c : tie.In-loop Inv-loop μ-loop) → c .before .loop .k ≤ lastCell
+in-list c = omega (arith, last-cell (greatestOf (c .before .before .before .before .before .before .before .args .ladder .now)) (c .before .before .before .width-of .result) (c .before .before .before .width-of .ensures .1), last (c .before .before), c .loop-test .taken)
+
 read-cells-requires : tie.Need-read-cells-requires Inv-loop μ-loop
 read-cells-requires c κs = search needs
 
@@ -26,24 +37,8 @@ width-of-requires c κs = shift-to (c .before .before .before .args .ladder .now
 cell-of-requires : tie.Need-cell-of-requires Inv-loop μ-loop
 cell-of-requires c κs = shift-to (c .before .before .before .before .args .ladder .now) (c .before .read-cells .ensures)
 
--- the metres of a cell
-wide : (c : tie.After-cell-of Inv-loop μ-loop) → c .before .width-of .result ≡ 2 ^ shiftOf (c .before .before .before .before .before .args .ladder .now)
-wide c = c .before .width-of .ensures .0 ∙ ap (λ n. 2 ^ n) (read-shift (c .before .before .before .before .before .args .ladder .now) (c .before .before .read-cells .ensures))
-
--- the last cell is that of the cap
-last : (c : tie.After-cell-of Inv-loop μ-loop) → c .cell-of .result ≡ capOf (greatestOf (c .before .before .before .before .before .args .ladder .now)) (c .before .width-of .result) / c .before .width-of .result
-last c = rw (wide c) (last-is (c .before .before .before .before .before .args .ladder .now) (c .before .before .read-cells .ensures) (c .cell-of .ensures))
-
--- the greatest threshold has 32 bits
-small : (c : tie.After-cell-of Inv-loop μ-loop) → greatestOf (c .before .before .before .before .before .args .ladder .now) < 4294967296
-small c = c .before .before .before .before .slice-known .given lastStep .fits
-
 loop-holds : tie.Need-loop-holds Inv-loop μ-loop
 loop-holds c = filling-none _ _ _
-
--- the cell in hand stands in the list
-in-list : (c : tie.In-loop Inv-loop μ-loop) → c .before .loop .k ≤ lastCell
-in-list c = omega (arith, last-cell (greatestOf (c .before .before .before .before .before .before .before .args .ladder .now)) (c .before .before .before .width-of .result) (c .before .before .before .width-of .ensures .1), last (c .before .before), c .loop-test .taken)
 
 skip-requires : tie.Need-skip-requires Inv-loop μ-loop
 skip-requires c κs = (c .before .before .loop .inv .cells .kept .long ∙ c .before .before .before .before .before .before .before .before .pre, c .before .before .loop .inv .in-steps, omega arith)
@@ -54,41 +49,35 @@ add-next c = omega (arith, starts-within _ _ (c .before .before .before .before 
 cell-end-requires : tie.Need-cell-end-requires Inv-loop μ-loop
 cell-end-requires c κs = omega (arith, read-greatest (c .before .before .before .before .before .before .before .before .before .args .ladder .now) (c .before .before .before .before .before .before .read-cells .ensures), small (c .before .before .before .before))
 
-is-alone-requires : tie.Need-is-alone-requires Inv-loop μ-loop
-is-alone-requires c κs = (c .before .before .before .before .before .loop .inv .cells .kept .long ∙ c .before .before .before .before .before .before .before .before .before .before .before .pre, c .before .before .skip .ensures .in-list)
-
-same-length : tie.Need-same-length Inv-loop μ-loop
-same-length c = c .before .before .before .before .before .before .before .loop .inv .cells .kept .long
-
-returns : tie.Need-returns Inv-loop μ-loop
-returns c = filling-not (c .before .before .before .before .before .before .before .loop .inv)
+named-step-requires : tie.Need-named-step-requires Inv-loop μ-loop
+named-step-requires c κs = (c .before .before .before .before .before .loop .inv .cells .kept .long ∙ c .before .before .before .before .before .before .before .before .before .before .before .pre, c .before .before .skip .ensures .in-list)
 
 cast-ladder : tie.Need-cast-ladder Inv-loop μ-loop
-cast-ladder c = omega (arith, c .before .before .before .before .skip .ensures .in-list)
+cast-ladder c = omega (arith, c .named-step .ensures .to-steps)
 
 add-ladder : tie.Need-add-ladder Inv-loop μ-loop
-add-ladder c = omega (arith, in-list (c .before .before .before .before .before .before))
+add-ladder c = omega (arith, in-list (c .before .before .before .before .before))
 
 mul-ladder : tie.Need-mul-ladder Inv-loop μ-loop
-mul-ladder c = omega (arith, in-list (c .before .before .before .before .before .before))
+mul-ladder c = omega (arith, in-list (c .before .before .before .before .before))
 
 slice-write-ladder : tie.Need-slice-write-ladder Inv-loop μ-loop
-slice-write-ladder c = omega (arith, in-list (c .before .before .before .before .before .before), c .before .before .before .before .before .before .before .loop .inv .cells .kept .long, c .before .before .before .before .before .before .before .before .before .before .before .before .before .pre)
+slice-write-ladder c = omega (arith, in-list (c .before .before .before .before .before), c .before .before .before .before .before .before .loop .inv .cells .kept .long, c .before .before .before .before .before .before .before .before .before .before .before .before .pre)
 
 add-k : tie.Need-add-k Inv-loop μ-loop
-add-k c = omega (arith, in-list (c .before .before .before .before .before .before))
+add-k c = omega (arith, in-list (c .before .before .before .before .before))
 
 loop-less : tie.Need-loop-less Inv-loop μ-loop
-loop-less c = omega (arith, c .before .before .before .before .before .before .loop-test .taken)
+loop-less c = omega (arith, c .before .before .before .before .before .loop-test .taken)
 
 loop-again : tie.Need-loop-again Inv-loop μ-loop
-loop-again c = filling-more _ _ (c .before .before .before .before .before .before .before .before .before .before .before .before .before .pre) (c .before .before .before .before .before .before .before .before .before .width-of .ensures .1) (last (c .before .before .before .before .before .before .before .before)) (c .before .before .before .before .before .before .before .loop .inv) (c .before .before .before .before .before .before .loop-test .taken) (c .before .before .before .before .skip .ensures) refl (read-greatest (c .before .before .before .before .before .before .before .before .before .before .before .before .before .args .ladder .now) (c .before .before .before .before .before .before .before .before .before .before .read-cells .ensures)) (c .before .before .before .cell-end .ensures) (c .before .is-alone .ensures (not-false _ (c .if1 .left)))
+loop-again c = filling-more _ _ (c .before .before .before .before .before .before .before .before .before .before .before .before .pre) (c .before .before .before .before .before .before .before .before .width-of .ensures .1) (last (c .before .before .before .before .before .before .before)) (c .before .before .before .before .before .before .loop .inv) (c .before .before .before .before .before .loop-test .taken) (c .before .before .before .skip .ensures) refl (read-greatest (c .before .before .before .before .before .before .before .before .before .before .before .before .args .ladder .now) (c .before .before .before .before .before .before .before .before .before .read-cells .ensures)) (c .before .before .cell-end .ensures) (c .named-step .ensures)
 
-same-length-2 : tie.Need-same-length-2 Inv-loop μ-loop
-same-length-2 c = c .before .loop .inv .cells .kept .long
+same-length : tie.Need-same-length Inv-loop μ-loop
+same-length c = c .before .loop .inv .cells .kept .long
 
-returns-2 : tie.Need-returns-2 Inv-loop μ-loop
-returns-2 c = filling-done _ _ (c .before .before .before .before .before .before .before .pre) (c .before .before .before .width-of .ensures .1) (last (c .before .before)) (c .before .loop .inv) (c .loop-test .left) (wide (c .before .before))
+returns : tie.Need-returns Inv-loop μ-loop
+returns c = filling-done _ _ (c .before .before .before .before .before .before .before .pre) (c .before .before .before .width-of .ensures .1) (last (c .before .before)) (c .before .loop .inv) (c .loop-test .left) (wide (c .before .before)) (λ e. omega (arith, e))
 
 pub fill-cells-spec : {M : Type 1} → statement M
-fill-cells-spec = tie.close (tie.spec Inv-loop μ-loop read-cells-requires width-of-requires cell-of-requires loop-holds skip-requires add-next cell-end-requires is-alone-requires same-length returns cast-ladder add-ladder mul-ladder slice-write-ladder add-k loop-less loop-again same-length-2 returns-2)
+fill-cells-spec = tie.close (tie.spec Inv-loop μ-loop read-cells-requires width-of-requires cell-of-requires loop-holds skip-requires add-next cell-end-requires named-step-requires cast-ladder add-ladder mul-ladder slice-write-ladder add-k loop-less loop-again same-length returns)

@@ -2,14 +2,14 @@
 use Prim.Native.Nat.{_-_, _≤_}
 use native.Mathlib.Omega.{arith}
 use borrow.Author.Needs.{needs}
-use Rattle.range_query.proofs.spreading.shift_within.Statement.{statement}
-use Rattle.range_query.proofs.spreading.shift_within.Tie as tie
+use Rattle.range_query.proofs.spreading.least_shift.Statement.{statement}
+use Rattle.range_query.proofs.spreading.least_shift.Tie as tie
 
 abbrev Inv-loop : tie.InvT-loop
-Inv-loop gap shift₀ rest₀ shift rest = shift ≤ 31
+Inv-loop metres end shift₀ rest₀ shift rest = shift ≤ 31
 
 abbrev μ-loop : tie.MeasureT-loop
-μ-loop gap shift₀ rest₀ shift rest = 31 - shift
+μ-loop metres end shift₀ rest₀ shift rest = 31 - shift
 
 loop-holds : tie.Need-loop-holds Inv-loop μ-loop
 loop-holds c = omega arith
@@ -29,5 +29,5 @@ loop-again c = omega arith
 returns-2 : tie.Need-returns-2 Inv-loop μ-loop
 returns-2 c = search needs
 
-pub shift-within-spec : {M : Type 1} → statement M
-shift-within-spec = tie.close (tie.spec Inv-loop μ-loop loop-holds returns add-shift loop-less loop-again returns-2)
+pub least-shift-spec : {M : Type 1} → statement M
+least-shift-spec = tie.close (tie.spec Inv-loop μ-loop loop-holds returns add-shift loop-less loop-again returns-2)
