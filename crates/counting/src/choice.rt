@@ -12,9 +12,11 @@ use crate::method::Method;
 use edge_pair::EdgePair;
 use edge_pair::greatest_distance;
 use edge_pair::shortest_route;
+use edge_pair::way;
 use model::less;
 use model::lesser;
 use model::value_at;
+use range_query::WIDEST_AT;
 use range_query::first_admitting;
 
 // The kernel of a method, or none: all pairs of the two runs are within reach from one threshold on and none before, or one threshold
@@ -34,13 +36,14 @@ const FEWEST_PAIRS: u64 = 1;
 const FEW_PAIRS: u64 = 25;
 
 // Up to so many events of the second run are compared with the one threshold that parts the pairs.
-const FEW_TO_COMPARE: usize = 16;
+const FEW_TO_COMPARE: usize = 10;
 
 // More pairs are looked at one by one where twice the events of the second run are at most so many times the thresholds that may part
-// them. On one edge looking numbers up takes longer, and so does moving cursors, so that the limit is higher.
+// them. On one edge looking numbers up takes longer, and so does moving cursors, and of a run with itself each two events are looked at
+// once, so that the limit is higher.
 const TWICE_A_THRESHOLD: u64 = 3;
 
-const TWICE_A_THRESHOLD_ON_ONE_EDGE: u64 = 10;
+const TWICE_A_THRESHOLD_ON_ONE_EDGE: u64 = 20;
 
 // Moving cursors over so many events at one offset counts as much as moving them on to another offset.
 const EVENTS_TO_AN_OFFSET: u64 = 16;
@@ -57,7 +60,7 @@ pub(crate) fn pairs_of(a: usize, b: usize) -> u64
 
 // The limit for two edges, or for one edge with itself.
 fn twice_a_threshold(same: bool) -> u64
-    ensures { λ r. ⌜ r ≤ 10 ⌝ }
+    ensures { λ r. ⌜ r ≤ 20 ⌝ }
 {
     if same {
         TWICE_A_THRESHOLD_ON_ONE_EDGE
@@ -102,6 +105,39 @@ fn by_thresholds(
     Kernel::CountAugmentation
 }
 
+// Twice the events of the second run, which are to be at most so many times the thresholds that part the pairs; for few pairs one
+// threshold is enough.
+fn twice_needed(pairs: u64, others: usize) -> u64
+    ensures { λ r. ⌜ r ≤ 131072 ⌝ }
+{
+    if pairs <= FEW_PAIRS {
+        TWICE_A_THRESHOLD
+    } else {
+        2 * lesser(others as u64, MANY)
+    }
+}
+
+// So many pairs of two edges are surely parted by thresholds enough for each to be looked at by itself. The two have first ends within
+// the greatest threshold of each other, and from their nearest to their farthest pair are at least half as many metres as both have: in
+// these lies a threshold for each widest gap, but for one.
+fn parted_often(
+    edges: EdgePair,
+    pairs: u64,
+    others: usize,
+    thresholds: &[u32],
+    ladder: &[u32],
+) -> bool {
+    let count = thresholds.len();
+    if count < 1 {
+        return false;
+    }
+    let greatest = thresholds[count - 1] as u64;
+    let widest = value_at(ladder, WIDEST_AT) as u64;
+    let both = edges.length1 as u64 + edges.length2 as u64;
+    let needed = (2 * twice_needed(pairs, others) + 2 * TWICE_A_THRESHOLD) * widest;
+    (way(edges.ff) <= greatest) & (needed <= TWICE_A_THRESHOLD * both)
+}
+
 // The threshold at a place admits so many metres, or there is none.
 fn is_next(metres: u64, place: usize, thresholds: &[u32]) -> bool
     ensures { λ r. ⌜ (r ≡ true → place < length (now (thresholds .entry)) → metres ≤ getD (now (thresholds .entry)) place 0) ⌝ }
@@ -136,6 +172,10 @@ fn cheapest(
 ) -> Kernel
     ensures { λ r. ⌜ (Ordered (now (thresholds .entry)) → LadderOf (now (thresholds .entry)) (now (ladder .entry)) → Right (now (thresholds .entry)) edges r) ⌝ }
 {
+    let pairs = pairs_of(events, others);
+    if parted_often(edges, pairs, others, thresholds, ladder) {
+        return Kernel::RangeQuery;
+    }
     let far = greatest_distance(edges);
     if far <= value_at(thresholds, 0) as u64 {
         return Kernel::AtOnce(0);
@@ -144,7 +184,6 @@ fn cheapest(
     if only_last_admits(near, far, thresholds) {
         return Kernel::AtOnce(thresholds.len() - 1);
     }
-    let pairs = pairs_of(events, others);
     if pairs <= FEWEST_PAIRS {
         return Kernel::RangeQuery;
     }
