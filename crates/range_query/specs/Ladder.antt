@@ -50,23 +50,14 @@ greatestOf ladder = getD ladder lastStep 0
 abbrev pub shiftOf : List ℕ → ℕ
 shiftOf ladder = getD ladder shiftAt 0 % shiftEnd
 
--- the start of the last cell, or the greatest threshold where that comes first
-unfoldable pub capOf : ℕ → ℕ → ℕ
-capOf greatest width = min greatest (lastCell * width)
-
 -- the cell of d: the last one has no end
-unfoldable pub cellOf : ℕ → ℕ → ℕ → ℕ
-cellOf greatest width d = min d (capOf greatest width) / width
+unfoldable pub cellOf : ℕ → ℕ → ℕ
+cellOf shift d = min (d / 2 ^ shift) lastCell
 
 -- what is read of a ladder before anything is looked up in it: cited by no public function
 unfoldable pub cellsOf : List ℕ → Cells
 cellsOf ladder =
-    record {
-      exact = eqb (getD ladder kindAt 0) exact;
-      shift = shiftOf ladder;
-      cap = capOf (greatestOf ladder) (2 ^ shiftOf ladder);
-      greatest = greatestOf ladder;
-    }
+    record { exact = eqb (getD ladder kindAt 0) exact; shift = shiftOf ladder }
 
 -- the steps before place pos are passed, and with them half more if the last of these does not admit d
 unfoldable pub narrowed : List ℕ → ℕ → ℕ → ℕ → ℕ
@@ -79,46 +70,43 @@ byHalves ladder d =
 
 -- the step that the cell of d names; none where it is the number of all steps
 unfoldable pub namedBy : List ℕ → ℕ → ℕ
-namedBy ladder d = getD ladder (firstCell + cellOf (greatestOf ladder) (2 ^ shiftOf ladder) d) 0
+namedBy ladder d = getD ladder (firstCell + cellOf (shiftOf ladder) d) 0
 
--- the steps that do not admit d, where one step alone need be looked at
-unfoldable pub byStep : List ℕ → ℕ → ℕ → ℕ
-byStep ladder d step = cond (ltb (greatestOf ladder) d) maxThresholds (narrowed ladder d 1 step)
-
--- the steps that do not admit d, by the step of its cell, or by halving where it names none
+-- the place of the first threshold that admits d, or one behind all thresholds: by the step that the cell of d names, or by halving where
+-- it names none
 unfoldable pub bySteps : List ℕ → ℕ → ℕ
-bySteps ladder d = cond (ltb (namedBy ladder d) maxThresholds) (byStep ladder d (namedBy ladder d)) (byHalves ladder d)
+bySteps ladder d = cond (ltb (namedBy ladder d) maxThresholds) (narrowed ladder d 1 (namedBy ladder d)) (byHalves ladder d)
 
 -- what the cell of so many metres holds, where a cell is of one metre and the last one without end
 unfoldable pub placeIn : List ℕ → ℕ → ℕ
 placeIn ladder d = getD ladder (firstCell + min d lastCell) 0
 
--- the steps that do not admit d, by what the cells are
+-- the same by what the cells are
 unfoldable pub foundIn : List ℕ → ℕ → ℕ
 foundIn ladder d = cond (eqb (getD ladder kindAt 0) exact) (placeIn ladder d) (bySteps ladder d)
 
--- the bucket of d: that of all steps if none admits it
+-- the bucket of d: the same, and no more than the number of steps
 unfoldable pub bucketIn : List ℕ → ℕ → ℕ
 bucketIn ladder d = min (foundIn ladder d) maxThresholds
 
--- the first step that admits d is among the n from place pos on, or comes right behind them
-pub record Bracket (ladder : List ℕ) (d pos n : ℕ) : Type 0 where
+-- the first step up to number last that admits d is among the n from place pos on, or comes behind them
+pub record Bracket (last : ℕ) (ladder : List ℕ) (d pos n : ℕ) : Type 0 where
   pub fits : pos + n ≤ maxThresholds
   pub passed : (k : ℕ) → k < pos → getD ladder k 0 < d
-  pub ahead : (k : ℕ) → pos + n ≤ k → k < maxThresholds → d ≤ getD ladder k 0
+  pub ahead : (k : ℕ) → pos + n ≤ k → k ≤ last → d ≤ getD ladder k 0
 
 -- the steps do not fall
 pub record Level (ladder : List ℕ) : Type 0 where
   pub level : (j k : ℕ) → j ≤ k → k < maxThresholds → getD ladder j 0 ≤ getD ladder k 0
 
--- the cell of d names the one step that need be looked at, or none, if d is within the greatest threshold
-pub record Celled (ladder : List ℕ) : Type 0 where
-  pub names : (d : ℕ) → d ≤ greatestOf ladder → namedBy ladder d < maxThresholds → Bracket ladder d (namedBy ladder d) 1
+-- the cell of d names the one step up to number last that need be looked at, or none
+pub record Celled (last : ℕ) (ladder : List ℕ) : Type 0 where
+  pub names : (d : ℕ) → namedBy ladder d < maxThresholds → Bracket last ladder d (namedBy ladder d) 1
 
 -- the cell of each metre holds its bucket, and the last one is beyond the greatest threshold
 pub record Placed (ladder : List ℕ) : Type 0 where
   pub beyond : greatestOf ladder < lastCell
-  pub places : (d : ℕ) → d ≤ lastCell → Bracket ladder d (getD ladder (firstCell + d) 0) 0
+  pub places : (d : ℕ) → d ≤ lastCell → Bracket lastStep ladder d (getD ladder (firstCell + d) 0) 0
 
 -- the thresholds are spread over the steps, and the cells are right
 pub record LadderOf (ts ladder : List ℕ) : Type 0 where
@@ -127,5 +115,5 @@ pub record LadderOf (ts ladder : List ℕ) : Type 0 where
   pub at : (k : ℕ) → k < length ts → getD ladder k 0 ≡ getD ts k 0
   pub small : (k : ℕ) → k < length ts → getD ts k 0 < 4294967296
   pub level : Level ladder
-  pub celled : (getD ladder kindAt 0 ≡ exact → ⊥) → Celled ladder
+  pub celled : (getD ladder kindAt 0 ≡ exact → ⊥) → Celled (length ts - 1) ladder
   pub placed : getD ladder kindAt 0 ≡ exact → Placed ladder

@@ -2,11 +2,11 @@
 ghost use mathlib.Core.Bool.{cond};
 ghost use mathlib.Core.List.{List};
 ghost use mathlib.Core.Path.{_≡_};
-ghost use Prim.Native.Nat.{ℕ, _+_, _/_, _^_, _≤_, _<_};
+ghost use Prim.Native.Nat.{ℕ, _+_, _^_, _≤_, _<_};
 ghost use lib.Dec.{leb, ltb};
 ghost use lib.ListN.{length, getD};
 ghost use Rattle.model.specs.Limits.{maxThresholds};
-ghost use Rattle.range_query.specs.Ladder.{shiftEnd, ladderLength, capOf, cellsOf, narrowed, byHalves, byStep, bySteps, placeIn, foundIn, bucketIn, LadderOf};
+ghost use Rattle.range_query.specs.Ladder.{shiftEnd, ladderLength, cellOf, cellsOf, narrowed, byHalves, bySteps, placeIn, foundIn, bucketIn, LadderOf};
 use model::Thresholds;
 use model::lesser;
 
@@ -18,8 +18,8 @@ pub const LAST_STEP: usize = STEPS - 1;
 
 // Behind the steps stand the widest gap between two thresholds or before the first, a shift, what the cells are, and the cells. Where the
 // greatest threshold is small there is a cell for each metre, the last one without end: the number of steps that do not admit so many
-// metres. Else there is a cell for each 2^shift metres up to the greatest threshold, the last one without end: the number of its step,
-// or that of all steps where one step does not do.
+// metres. Else there is a cell for each 2^shift metres, the last one without end: the number of the one threshold that may part what
+// lies in the cell, or the number of all steps where several may.
 pub const WIDEST_AT: usize = STEPS;
 
 pub const SHIFT_AT: usize = WIDEST_AT + 1;
@@ -43,13 +43,10 @@ pub const LAST_CELL: usize = CELLS - 1;
 // A cell is of 2^31 metres at most.
 pub const SHIFT_END: u32 = 32;
 
-// What is read of a ladder once: whether there is a cell for each metre, the shift of the cells, where the last one starts (or the
-// greatest threshold where that comes first), and the greatest threshold.
+// What is read of a ladder once: whether there is a cell for each metre, and the shift of the cells.
 pub struct Cells {
     pub exact: bool,
     pub shift: u32,
-    pub cap: u64,
-    pub greatest: u64,
 }
 
 // The metres of a cell.
@@ -60,20 +57,12 @@ pub(crate) fn width_of(shift: u32) -> u64
     1u64 << shift
 }
 
-// The start of the last cell, or the greatest threshold where that comes first.
-pub(crate) fn cap_of(greatest: u64, width: u64) -> u64
-    requires { ⌜ width ≤ 2147483648 ⌝ }
-    ensures { λ r. ⌜ r ≡ capOf greatest width ⌝ }
-{
-    lesser(greatest, (CELLS as u64 - 1) * width)
-}
-
-// The cell of 2^shift metres that so many metres lie in.
+// The cell of 2^shift metres that so many metres lie in: the last one has no end.
 pub(crate) fn cell_of(metres: u64, shift: u32) -> usize
     requires { ⌜ shift < shiftEnd ⌝ }
-    ensures { λ r. ⌜ r ≡ metres / 2 ^ shift ⌝ }
+    ensures { λ r. ⌜ r ≡ cellOf shift metres ⌝ }
 {
-    (metres >> shift) as usize
+    lesser(metres >> shift, LAST_CELL as u64) as usize
 }
 
 // What is read of a ladder.
@@ -81,14 +70,9 @@ pub(crate) fn read_cells(ladder: &[u32]) -> Cells
     requires { ⌜ length (now ladder) ≡ ladderLength ⌝ }
     ensures { λ r. ⌜ r ≡ cellsOf (now (ladder .entry)) ⌝ }
 {
-    let shift = ladder[SHIFT_AT] % SHIFT_END;
-    let greatest = ladder[LAST_STEP] as u64;
-    let cap = cap_of(greatest, width_of(shift));
     Cells {
         exact: ladder[KIND_AT] == EXACT,
-        shift,
-        cap,
-        greatest,
+        shift: ladder[SHIFT_AT] % SHIFT_END,
     }
 }
 
@@ -121,24 +105,15 @@ fn by_halves(ladder: &[u32], d: u64) -> usize
     narrow(ladder, d, 1, by_1)
 }
 
-// The same where one step alone need be looked at, and beyond the greatest threshold none.
-fn by_step(ladder: &[u32], cells: Cells, d: u64, step: usize) -> usize
-    requires { ⌜ (length (now ladder) ≡ ladderLength) × (cells ≡ cellsOf (now ladder)) × (step < maxThresholds) ⌝ }
-    ensures { λ r. ⌜ r ≡ byStep (now (ladder .entry)) d step ⌝ }
-{
-    let found = narrow(ladder, d, 1, step);
-    if cells.greatest < d { STEPS } else { found }
-}
-
-// The same by the cell of d, or by halving where one step does not do.
+// The place of the first threshold that admits d, or one behind all thresholds: by the step that the cell of d names, or by halving where
+// it names none.
 pub(crate) fn by_steps(ladder: &[u32], cells: Cells, d: u64) -> usize
     requires { ⌜ (length (now ladder) ≡ ladderLength) × (cells ≡ cellsOf (now ladder)) ⌝ }
     ensures { λ r. ⌜ r ≡ bySteps (now (ladder .entry)) d ⌝ }
 {
-    let cell = cell_of(lesser(d, cells.cap), cells.shift);
-    let step = ladder[FIRST_CELL + cell] as usize;
+    let step = ladder[FIRST_CELL + cell_of(d, cells.shift)] as usize;
     if step < STEPS {
-        return by_step(ladder, cells, d, step);
+        return narrow(ladder, d, 1, step);
     }
     by_halves(ladder, d)
 }
@@ -163,7 +138,8 @@ pub(crate) fn find(ladder: &[u32], cells: Cells, d: u64) -> usize
     by_steps(ladder, cells, d)
 }
 
-// The number of steps that do not admit so many metres; that of all steps if the list is not as long as a ladder.
+// The place of the first threshold that admits so many metres, or one behind all thresholds; the number of all steps if the list is not
+// as long as a ladder.
 pub fn first_admitting(ladder: &[u32], metres: u64) -> usize
     ensures { λ r. ⌜ (length (now (ladder .entry)) ≡ ladderLength → r ≡ bucketIn (now (ladder .entry)) metres) × (r ≤ maxThresholds) × ((ts : List ℕ) → LadderOf ts (now (ladder .entry)) → (k : ℕ) → k < length ts → leb r k ≡ leb metres (getD ts k 0)) ⌝ }
 {

@@ -1,4 +1,4 @@
-// The pairs of a run with itself: each two events are looked at once, and count both ways.
+// The pairs of two runs on one edge. Of a run with itself each two events are looked at once, and count both ways.
 ghost use mathlib.Core.Bool.{true};
 ghost use mathlib.Core.Path.{_≡_};
 ghost use Prim.Native.Nat.{_*_, _≤_};
@@ -36,7 +36,7 @@ fn are_same(xs: &[u32], ys: &[u32]) -> bool
 }
 
 // True only if two runs are the same on one edge, so that two places are as far apart one way as the other.
-pub(crate) fn is_own(edges: EdgePair, xs: &[u32], ys: &[u32]) -> bool
+fn is_own(edges: EdgePair, xs: &[u32], ys: &[u32]) -> bool
     ensures { λ r. ⌜ (r ≡ true → Mirrored edges × (length (now (xs .entry)) ≤ maxEvents) × (now (xs .entry) ≡ now (ys .entry))) ⌝ }
 {
     if !edges.same {
@@ -54,25 +54,25 @@ pub(crate) fn is_own(edges: EdgePair, xs: &[u32], ys: &[u32]) -> bool
     are_same(xs, ys)
 }
 
-// Counts the pairs of so many events at one offset with those of a part of their run, each from the first threshold on that admits its
-// metres. It is a loop of its own, as the loops for two runs are compiled into their caller only while they have no other.
-fn add_row_before(
+// Counts the pairs of so many events at one offset with those of a run, or of a part of one, each from the first threshold on that
+// admits its metres.
+fn add_row_along(
     edges: EdgePair,
     x: u32,
     many: u64,
-    part: &[u32],
+    ys: &[u32],
     ladder: &[u32],
     cells: Cells,
     totals: &mut [u64],
 )
     requires { ⌜ (length (now ladder) ≡ ladderLength) × (cells ≡ cellsOf (now ladder)) ⌝ }
-    ensures { λ _. ⌜ Added maxThresholds (λ k. many * countIf (λ y. leb (foundIn (now (ladder .entry)) (metresBetween edges x y)) k) (now (part .entry))) (now (totals .entry)) (now (totals .exit)) ⌝ }
+    ensures { λ _. ⌜ Added maxThresholds (λ k. many * countIf (λ y. leb (foundIn (now (ladder .entry)) (metresBetween edges x y)) k) (now (ys .entry))) (now (totals .entry)) (now (totals .exit)) ⌝ }
 {
     let p = to_end(edges, x, true);
     let q = to_end(edges, x, false);
     let mut j = 0;
-    while j < part.len() {
-        let metres = meet(edges, p, q, x, part[j]);
+    while j < ys.len() {
+        let metres = meet(edges, p, q, x, ys[j]);
         let step = find(ladder, cells, metres);
         change_from(totals, step, 0, many);
         j += 1;
@@ -81,7 +81,7 @@ fn add_row_before(
 
 // Counts the ordered pairs of two events of a run, an event with itself included: the events at one offset together, with each other
 // and with those before them.
-pub(crate) fn add_own(edges: EdgePair, xs: &[u32], ladder: &[u32], cells: Cells, totals: &mut [u64])
+fn add_own(edges: EdgePair, xs: &[u32], ladder: &[u32], cells: Cells, totals: &mut [u64])
     requires { ⌜ (length (now ladder) ≡ ladderLength) × (cells ≡ cellsOf (now ladder)) × Mirrored edges × (length (now xs) ≤ maxEvents) ⌝ }
     ensures { λ _. ⌜ Added maxThresholds (tallied (now (ladder .entry)) edges (now (xs .entry)) (now (xs .entry))) (now (totals .entry)) (now (totals .exit)) ⌝ }
 {
@@ -90,8 +90,47 @@ pub(crate) fn add_own(edges: EdgePair, xs: &[u32], ladder: &[u32], cells: Cells,
     while i < xs.len() {
         let end = equals_end(xs, i);
         let many = (end - i) as u64;
-        add_row_before(edges, xs[i], 2 * many, &xs[..i], ladder, cells, totals);
+        add_row_along(edges, xs[i], 2 * many, &xs[..i], ladder, cells, totals);
         change_from(totals, at_once, 0, many * many);
         i = end;
+    }
+}
+
+// Counts the pairs of an event of one run and one of another.
+fn add_along(
+    edges: EdgePair,
+    xs: &[u32],
+    ys: &[u32],
+    ladder: &[u32],
+    cells: Cells,
+    totals: &mut [u64],
+)
+    requires { ⌜ (length (now ladder) ≡ ladderLength) × (cells ≡ cellsOf (now ladder)) ⌝ }
+    ensures { λ _. ⌜ Added maxThresholds (tallied (now (ladder .entry)) edges (now (xs .entry)) (now (ys .entry))) (now (totals .entry)) (now (totals .exit)) ⌝ }
+{
+    let mut i = 0;
+    while i < xs.len() {
+        let end = equals_end(xs, i);
+        add_row_along(edges, xs[i], (end - i) as u64, ys, ladder, cells, totals);
+        i = end;
+    }
+}
+
+// The same, by which of the two it is.
+pub(crate) fn add_on_one_edge(
+    edges: EdgePair,
+    xs: &[u32],
+    ys: &[u32],
+    ladder: &[u32],
+    cells: Cells,
+    totals: &mut [u64],
+)
+    requires { ⌜ (length (now ladder) ≡ ladderLength) × (cells ≡ cellsOf (now ladder)) ⌝ }
+    ensures { λ _. ⌜ Added maxThresholds (tallied (now (ladder .entry)) edges (now (xs .entry)) (now (ys .entry))) (now (totals .entry)) (now (totals .exit)) ⌝ }
+{
+    if is_own(edges, xs, ys) {
+        add_own(edges, xs, ladder, cells, totals);
+    } else {
+        add_along(edges, xs, ys, ladder, cells, totals);
     }
 }

@@ -6,7 +6,7 @@ ghost use lib.ListN.{length};
 ghost use Rattle.model.specs.Limits.{maxThresholds};
 ghost use Rattle.edge_pair.specs.Offsets.{Ordered};
 ghost use Rattle.range_query.specs.Ladder.{lastStep, ladderLength, Level, LadderOf};
-ghost use Rattle.range_query.specs.Spreading.{SpreadSteps, Skipped, Alone, Names, CellEnd, CellsFilled, PlacesFilled};
+ghost use Rattle.range_query.specs.Spreading.{SpreadSteps, Skipped, Alone, Names, CellsFilled, PlacesFilled};
 use crate::lookup::BY_STEP;
 use crate::lookup::CELLS;
 use crate::lookup::EXACT;
@@ -18,7 +18,6 @@ use crate::lookup::LAST_STEP;
 use crate::lookup::SHIFT_AT;
 use crate::lookup::STEPS;
 use crate::lookup::WIDEST_AT;
-use crate::lookup::cell_of;
 use crate::lookup::read_cells;
 use crate::lookup::width_of;
 use model::apart;
@@ -111,53 +110,46 @@ fn skip(ladder: &[u32], metres: u64, c: usize, end: usize) -> usize
     k
 }
 
-// True only if every step behind number c admits whatever lies before an end and within the greatest threshold.
-fn is_alone(ladder: &[u32], c: usize, end: u64) -> bool
-    requires { ⌜ (length (now ladder) ≡ ladderLength) × (c ≤ lastStep) ⌝ }
-    ensures { λ r. ⌜ (r ≡ true → Level (now (ladder .entry)) → Alone (now (ladder .entry)) c end) ⌝ }
+// True only if every threshold behind number c admits whatever lies in a cell with an end, or without one. The last threshold has
+// number last.
+fn is_alone(ladder: &[u32], last: usize, c: usize, endless: bool, end: u64) -> bool
+    requires { ⌜ (length (now ladder) ≡ ladderLength) × (last ≤ lastStep) × (c ≤ last) ⌝ }
+    ensures { λ r. ⌜ (r ≡ true → Level (now (ladder .entry)) → Alone (now (ladder .entry)) last c endless end) ⌝ }
 {
-    if c == LAST_STEP {
+    if c == last {
         return true;
     }
-    let next = ladder[c + 1];
-    if end <= next as u64 {
-        return true;
+    if endless {
+        return false;
     }
-    ladder[LAST_STEP] <= next
+    end <= ladder[c + 1] as u64
 }
 
-// The end of cell k: beyond the greatest threshold if it is the last one, else the start of the next.
-fn cell_end(k: usize, last: usize, next: u64, greatest: u64) -> u64
-    requires { ⌜ greatest < 4294967296 ⌝ }
-    ensures { λ r. ⌜ CellEnd k last next greatest r ⌝ }
+// What a cell holds: the number of the one threshold that may part what lies in it, or that of all steps.
+fn named_step(ladder: &[u32], last: usize, c: usize, endless: bool, end: u64) -> usize
+    requires { ⌜ (length (now ladder) ≡ ladderLength) × (last ≤ lastStep) × (c ≤ last) ⌝ }
+    ensures { λ r. ⌜ Names (now (ladder .entry)) last c endless end r ⌝ }
 {
-    if k == last { greatest + 1 } else { next }
+    if is_alone(ladder, last, c, endless, end) {
+        c
+    } else {
+        STEPS
+    }
 }
 
-// What a cell holds: the number of the one step that need be looked at, or that of all steps.
-fn named_step(ladder: &[u32], c: usize, end: u64) -> usize
-    requires { ⌜ (length (now ladder) ≡ ladderLength) × (c ≤ lastStep) ⌝ }
-    ensures { λ r. ⌜ Names (now (ladder .entry)) c end r ⌝ }
+// Writes cells that name a threshold or none, by the steps and the shift, and tells so.
+fn fill_cells(last: usize, ladder: &mut [u32]) -> u32
+    requires { ⌜ (length (now ladder) ≡ ladderLength) × (last ≤ lastStep) ⌝ }
+    ensures { λ r. ⌜ CellsFilled last (now (ladder .entry)) r (now (ladder .exit)) ⌝ }
 {
-    if is_alone(ladder, c, end) { c } else { STEPS }
-}
-
-// Writes cells of one step each by the steps and the shift, and tells so.
-fn fill_cells(ladder: &mut [u32]) -> u32
-    requires { ⌜ length (now ladder) ≡ ladderLength ⌝ }
-    ensures { λ r. ⌜ CellsFilled (now (ladder .entry)) r (now (ladder .exit)) ⌝ }
-{
-    let cells = read_cells(ladder);
-    let width = width_of(cells.shift);
-    let last = cell_of(cells.cap, cells.shift);
+    let width = width_of(read_cells(ladder).shift);
     let mut c = 0;
     let mut start: u64 = 0;
     let mut k = 0;
-    while k <= last {
-        c = skip(ladder, start, c, LAST_STEP);
+    while k < CELLS {
+        c = skip(ladder, start, c, last);
         let next = start + width;
-        let end = cell_end(k, last, next, cells.greatest);
-        let step = named_step(ladder, c, end);
+        let step = named_step(ladder, last, c, k == LAST_CELL, next);
         ladder[FIRST_CELL + k] = step as u32;
         start = next;
         k += 1;
@@ -180,15 +172,15 @@ fn fill_places(ladder: &mut [u32])
 }
 
 // Writes the cells, and tells what they are.
-fn fill(ladder: &mut [u32]) -> u32
-    requires { ⌜ length (now ladder) ≡ ladderLength ⌝ }
-    ensures { λ r. ⌜ CellsFilled (now (ladder .entry)) r (now (ladder .exit)) ⌝ }
+fn fill(last: usize, ladder: &mut [u32]) -> u32
+    requires { ⌜ (length (now ladder) ≡ ladderLength) × (last ≤ lastStep) ⌝ }
+    ensures { λ r. ⌜ CellsFilled last (now (ladder .entry)) r (now (ladder .exit)) ⌝ }
 {
     if (ladder[LAST_STEP] as usize) < LAST_CELL {
         fill_places(ladder);
         return EXACT;
     }
-    fill_cells(ladder)
+    fill_cells(last, ladder)
 }
 
 // Makes the ladder of at most as many thresholds as there may be, in rising order: the steps, the shift, what the cells are, and
@@ -208,5 +200,5 @@ pub fn spread(thresholds: &[u32], ladder: &mut [u32])
     spread_steps(thresholds, ladder);
     ladder[WIDEST_AT] = widest_gap(thresholds);
     ladder[SHIFT_AT] = shift_for(thresholds);
-    ladder[KIND_AT] = fill(ladder);
+    ladder[KIND_AT] = fill(thresholds.len() - 1, ladder);
 }

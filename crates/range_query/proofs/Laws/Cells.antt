@@ -1,53 +1,21 @@
--- Cells of so many metres, the last one without end.
+-- Cells of 2 ^ shift metres, the last one without end.
 use mathlib.Core.Path.{_≡_, subst}
-use Prim.Native.Nat.{ℕ, suc, _+_, _*_, _/_, _≤_, _<_, min}
-use native.Mathlib.Decide.{decLt}
-use native.Mathlib.Nat.{suc-mul, div-mul-le-self, lt-div-mul-add, mul-le-mul-right, div-le-of-le-mul}
+use Prim.Native.Nat.{ℕ, _+_, _*_, _/_, _^_, _≤_, _<_, min}
+use native.Mathlib.Nat.{div-mul-le-self, lt-div-mul-add, mul-le-mul-right, one-le-pow}
 use native.Mathlib.Omega.{arith}
-use Rattle.range_query.specs.Ladder.{lastCell, capOf, cellOf}
-use Rattle.range_query.specs.Spreading.{CellEnd}
+use Rattle.range_query.specs.Ladder.{lastCell, cellOf}
 
--- fewer metres lie in no later cell
-div-grows : (m n width : ℕ) → 1 ≤ width → m ≤ n → m / width ≤ n / width
-div-grows m n width some h = go (decLt (n / width) (m / width))
-  where
-    go : Dec (n / width < m / width) → m / width ≤ n / width
-    go (no p) = omega arith
-    go (yes p) =
-        absurd (omega (arith, mul-le-mul-right {m = suc (n / width)} {n = m / width} width (omega arith), suc-mul (n / width) width, div-mul-le-self m width, lt-div-mul-add {a = n} {b = width} some))
-
-module _ (greatest width : ℕ) (some : 1 ≤ width) where
-  -- the last cell is in the list
-  pub last-cell : capOf greatest width / width ≤ lastCell
-  unfolding capOf
-  last-cell = div-le-of-le-mul width (omega arith)
-
+module _ (shift : ℕ) where
   -- no cell is behind the last
-  pub cell-to : (d : ℕ) → cellOf greatest width d ≤ capOf greatest width / width
+  pub cell-to : (d : ℕ) → cellOf shift d ≤ lastCell
   unfolding cellOf
-  cell-to d = div-grows (min d (capOf greatest width)) (capOf greatest width) width some (omega arith)
-
-  -- every cell starts within the greatest threshold
-  pub starts-within : {k last : ℕ} → last ≡ capOf greatest width / width → k ≤ last → k * width ≤ greatest
-  unfolding capOf
-  starts-within {k} {last} e h =
-      omega (arith, mul-le-mul-right {m = k} {n = capOf greatest width / width} width (omega arith), div-mul-le-self (capOf greatest width) width)
+  cell-to d = omega arith
 
   -- the metres of cell k
-  pub in-cell : {k last next end d : ℕ} → last ≡ capOf greatest width / width → next ≡ k * width + width → CellEnd k last next greatest end → cellOf greatest width d ≡ k → d ≤ greatest → (k * width ≤ d) × (d < end)
+  pub in-cell : {k d : ℕ} → cellOf shift d ≡ k → (k * 2 ^ shift ≤ d) × (k < lastCell → d < k * 2 ^ shift + 2 ^ shift)
   unfolding cellOf
-  in-cell {k} {last} {next} {end} {d} e begins ends f h = (omega (arith, low), high (decLt k last))
+  in-cell {k} {d} e =
+      (omega (arith, mul-le-mul-right {m = k} {n = d / 2 ^ shift} (2 ^ shift) (omega arith), div-mul-le-self d (2 ^ shift)), λ h. subst (λ c. d < c * 2 ^ shift + 2 ^ shift) (whole h) (lt-div-mul-add {a = d} {b = 2 ^ shift} (one-le-pow shift 2 (omega arith))))
     where
-      low : k * width ≤ min d (capOf greatest width)
-      low = subst (λ x. x * width ≤ min d (capOf greatest width)) f (div-mul-le-self (min d (capOf greatest width)) width)
-
-      below : min d (capOf greatest width) < k * width + width
-      below = subst (λ x. min d (capOf greatest width) < x * width + width) f (lt-div-mul-add {a = min d (capOf greatest width)} {b = width} some)
-
-      high : Dec (k < last) → d < end
-      high (yes p) =
-          omega (arith, below, ends .inner p, mul-le-mul-right {m = suc k} {n = capOf greatest width / width} width (omega arith), suc-mul k width, div-mul-le-self (capOf greatest width) width)
-      high (no p) = omega (arith, ends .open-ended (at-last (cell-to d)))
-        where
-          at-last : cellOf greatest width d ≤ capOf greatest width / width → k ≡ last
-          at-last l = omega arith
+      whole : k < lastCell → d / 2 ^ shift ≡ k
+      whole h = omega arith

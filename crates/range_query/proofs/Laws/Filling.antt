@@ -1,7 +1,8 @@
 -- The cells are filled one after the other: each names the one step that need be looked at.
+use mathlib.Core.Bool.{Bool, true, false}
 use mathlib.Core.List.{List}
 use mathlib.Core.Path.{_≡_, refl, sym, ap, _∙_}
-use Prim.Native.Nat.{ℕ, _+_, _*_, _/_, _^_, _≤_, _<_}
+use Prim.Native.Nat.{ℕ, _+_, _*_, _^_, _≤_, _<_}
 use native.Mathlib.Decide.{decLt}
 use native.Mathlib.Nat.{suc-mul}
 use native.Mathlib.Numerals.{add-one}
@@ -9,20 +10,18 @@ use native.Mathlib.Omega.{arith}
 use lib.ListN.{length, getD, set, length-set}
 use lib.Seq.{getD-set-same, getD-set-other}
 use Rattle.model.specs.Limits.{maxThresholds}
-use Rattle.range_query.specs.Ladder.{lastStep, shiftAt, kindAt, firstCell, ladderLength, exact, greatestOf, shiftOf, capOf, cellOf, namedBy, Bracket, Level, Celled}
-use Rattle.range_query.specs.Spreading.{Skipped, Alone, Names, CellEnd, StepsKept, CellsFilled}
-use Rattle.range_query.proofs.Laws.Cells.{last-cell, cell-to, in-cell}
+use Rattle.range_query.specs.Ladder.{lastStep, shiftAt, kindAt, firstCell, cellCount, lastCell, ladderLength, exact, shiftOf, cellOf, namedBy, Bracket, Level, Celled}
+use Rattle.range_query.specs.Spreading.{Skipped, Alone, Names, StepsKept, CellsFilled}
+use Rattle.range_query.proofs.Laws.Cells.{cell-to, in-cell}
 
 -- nothing stands behind the last step
-pub alone-last : (ladder : List ℕ) (c end : ℕ) → c ≡ lastStep → Alone ladder c end
-alone-last ladder c end e = record { ahead = λ d h l j b m. absurd (omega arith) }
+pub alone-last : (ladder : List ℕ) {last c : ℕ} (endless : Bool) (end : ℕ) → c ≡ last → Alone ladder last c endless end
+alone-last ladder endless end e = record { ahead = λ d h j b m. absurd (omega arith) }
 
--- the next step admits whatever lies before the end, or is the greatest
-pub alone-next : {ladder : List ℕ} (c end : ℕ) → Level ladder → end ≤ getD ladder (c + 1) 0 → Alone ladder c end
-alone-next c end up h = record { ahead = λ d b l j m k. omega (arith, up .level (c + 1) j (omega arith) k) }
-
-pub alone-greatest : {ladder : List ℕ} (c end : ℕ) → Level ladder → greatestOf ladder ≤ getD ladder (c + 1) 0 → Alone ladder c end
-alone-greatest c end up h = record { ahead = λ d b l j m k. omega (arith, up .level (c + 1) j (omega arith) k) }
+-- the next step admits whatever lies before the end
+pub alone-next : {ladder : List ℕ} {last c : ℕ} {endless : Bool} {end : ℕ} → last ≤ lastStep → Level ladder → endless ≡ false → end ≤ getD ladder (c + 1) 0 → Alone ladder last c endless end
+alone-next {c = c} few up closed h =
+    record { ahead = λ d b j m k. omega (arith, b closed, up .level (c + 1) j (omega arith) (omega arith)) }
 
 -- one more step below so many metres
 pub skip-more : (ladder : List ℕ) (metres c k : ℕ) → ((j : ℕ) → c ≤ j → j < k → getD ladder j 0 < metres) → getD ladder k 0 < metres → (j : ℕ) → c ≤ j → j < k + 1 → getD ladder j 0 < metres
@@ -43,8 +42,8 @@ kept-set {old} {new} i v h w =
 pub level-kept : {old new : List ℕ} → StepsKept old new → Level old → Level new
 level-kept w up = record { level = λ j k h l. rw (w .at j (omega arith), w .at k (omega arith)) (up .level j k h l) }
 
-pub bracket-kept : {old new : List ℕ} {d pos n : ℕ} → StepsKept old new → Bracket old d pos n → Bracket new d pos n
-bracket-kept kept w =
+pub bracket-kept : {last : ℕ} {old new : List ℕ} {d pos n : ℕ} → last ≤ lastStep → StepsKept old new → Bracket last old d pos n → Bracket last new d pos n
+bracket-kept few kept w =
     record {
       fits = w .fits;
       passed = λ k h. rw (kept .at k (omega (arith, w .fits))) (w .passed k h);
@@ -52,60 +51,60 @@ bracket-kept kept w =
     }
 
 -- the same cells behind the same steps
-pub celled-kept : {old new : List ℕ} → StepsKept old new → ((k : ℕ) → getD new (firstCell + k) 0 ≡ getD old (firstCell + k) 0) → Celled old → Celled new
+pub celled-kept : {last : ℕ} {old new : List ℕ} → last ≤ lastStep → StepsKept old new → ((k : ℕ) → getD new (firstCell + k) 0 ≡ getD old (firstCell + k) 0) → Celled last old → Celled last new
 unfolding namedBy
-celled-kept {old} {new} kept same w =
+celled-kept {last} {old} few kept same w =
     record {
-      names = λ d l. rw (kept .at lastStep (omega arith), kept .at shiftAt (omega arith), same (cellOf (greatestOf old) (2 ^ shiftOf old) d)) (λ named. bracket-kept kept (w .names d (rw (kept .at lastStep (omega arith)) at l) named));
+      names = λ d. rw (kept .at shiftAt (omega arith), same (cellOf (shiftOf old) d)) (λ named. bracket-kept few kept (w .names d named));
     }
 
 -- the first n cells name the one step that need be looked at, or none, if the steps do not fall; steps and shift are kept
-pub record CellsTo (old : List ℕ) (width n : ℕ) (new : List ℕ) : Type 0 where
+pub record CellsTo (last : ℕ) (old : List ℕ) (n : ℕ) (new : List ℕ) : Type 0 where
   pub kept : StepsKept old new
-  pub names : Level old → (d : ℕ) → cellOf (greatestOf old) width d < n → d ≤ greatestOf old → getD new (firstCell + cellOf (greatestOf old) width d) 0 < maxThresholds → Bracket old d (getD new (firstCell + cellOf (greatestOf old) width d) 0) 1
+  pub names : Level old → (d : ℕ) → cellOf (shiftOf old) d < n → getD new (firstCell + cellOf (shiftOf old) d) 0 < maxThresholds → Bracket last old d (getD new (firstCell + cellOf (shiftOf old) d) 0) 1
 
 -- no cell yet
-cells-none : (old : List ℕ) (width : ℕ) → CellsTo old width 0 old
-cells-none old width = record { kept = kept-none old; names = λ up d h. absurd (omega arith) }
+cells-none : (last : ℕ) (old : List ℕ) → CellsTo last old 0 old
+cells-none last old = record { kept = kept-none old; names = λ up d h. absurd (omega arith) }
 
 -- one cell more
-cells-more : {old new : List ℕ} (width n c : ℕ) → CellsTo old width n new → firstCell + n < length old → (Level old → (d : ℕ) → cellOf (greatestOf old) width d ≡ n → d ≤ greatestOf old → c < maxThresholds → Bracket old d c 1) → CellsTo old width (n + 1) (set new (firstCell + n) c)
-cells-more {old} {new} width n c w in-list here =
+cells-more : {last : ℕ} {old new : List ℕ} (n c : ℕ) → CellsTo last old n new → firstCell + n < length old → (Level old → (d : ℕ) → cellOf (shiftOf old) d ≡ n → c < maxThresholds → Bracket last old d c 1) → CellsTo last old (n + 1) (set new (firstCell + n) c)
+cells-more {last} {old} {new} n c w in-list here =
     record {
       kept = kept-set (firstCell + n) c (omega arith) (w .kept);
-      names = λ up d h l. go up d l (decLt (cellOf (greatestOf old) width d) n) h;
+      names = λ up d h. go up d (decLt (cellOf (shiftOf old) d) n) h;
     }
   where
     same : getD (set new (firstCell + n) c) (firstCell + n) 0 ≡ c
     same = getD-set-same new (firstCell + n) c 0 (omega (arith, w .kept .long))
 
-    go : Level old → (d : ℕ) → d ≤ greatestOf old → Dec (cellOf (greatestOf old) width d < n) → cellOf (greatestOf old) width d < n + 1 → getD (set new (firstCell + n) c) (firstCell + cellOf (greatestOf old) width d) 0 < maxThresholds → Bracket old d (getD (set new (firstCell + n) c) (firstCell + cellOf (greatestOf old) width d) 0) 1
-    go up d l (yes p) h =
-        rw (getD-set-other new (firstCell + n) (firstCell + cellOf (greatestOf old) width d) c 0 (λ e. omega arith)) (w .names up d p l)
-    go up d l (no p) h =
-        let e : cellOf (greatestOf old) width d ≡ n = omega arith in
-        rw (e, same) (here up d e l)
+    go : Level old → (d : ℕ) → Dec (cellOf (shiftOf old) d < n) → cellOf (shiftOf old) d < n + 1 → getD (set new (firstCell + n) c) (firstCell + cellOf (shiftOf old) d) 0 < maxThresholds → Bracket last old d (getD (set new (firstCell + n) c) (firstCell + cellOf (shiftOf old) d) 0) 1
+    go up d (yes p) h =
+        rw (getD-set-other new (firstCell + n) (firstCell + cellOf (shiftOf old) d) c 0 (λ e. omega arith)) (w .names up d p)
+    go up d (no p) h =
+        let e : cellOf (shiftOf old) d ≡ n = omega arith in
+        rw (e, same) (here up d e)
 
 -- the first k cells are filled, and the steps before number c are below the start of the next
-pub record Filling (old : List ℕ) (width last c start k : ℕ) (new : List ℕ) : Type 0 where
-  pub begins : start ≡ k * width
-  pub in-steps : c ≤ lastStep
+pub record Filling (last : ℕ) (old : List ℕ) (c start k : ℕ) (new : List ℕ) : Type 0 where
+  pub begins : start ≡ k * 2 ^ shiftOf old
+  pub in-steps : c ≤ last
   pub passed : (j : ℕ) → j < c → getD old j 0 < start
-  pub cells : CellsTo old width k new
+  pub cells : CellsTo last old k new
 
-pub filling-none : (old : List ℕ) (width last : ℕ) → Filling old width last 0 0 0 old
-filling-none old width last =
-    record { begins = omega arith; in-steps = omega arith; passed = λ j h. absurd (omega arith); cells = cells-none old width }
+pub filling-none : (last : ℕ) (old : List ℕ) → Filling last old 0 0 0 old
+filling-none last old =
+    record { begins = omega arith; in-steps = omega arith; passed = λ j h. absurd (omega arith); cells = cells-none last old }
 
--- cells of so many metres up to the last
-module _ {old : List ℕ} (width last : ℕ) (long : length old ≡ ladderLength) (some : 1 ≤ width) (last-is : last ≡ capOf (greatestOf old) width / width) where
-  pub filling-more : {new : List ℕ} {c c′ start k next greatest end step : ℕ} → Filling old width last c start k new → k ≤ last → Skipped new start c lastStep c′ → next ≡ start + width → greatest ≡ greatestOf old → CellEnd k last next greatest end → Names new c′ end step → Filling old width last c′ next (k + 1) (set new (firstCell + k) step)
-  filling-more {new} {c} {c′} {start} {k} {next} {greatest} {end} {step} w h skipped e g ends told =
+module _ {last : ℕ} {old : List ℕ} (long : length old ≡ ladderLength) (few : last ≤ lastStep) where
+  -- one cell more: it is endless if it is the last
+  pub filling-more : {new : List ℕ} {c c′ start k next step : ℕ} {endless : Bool} → Filling last old c start k new → k < cellCount → Skipped new start c last c′ → next ≡ start + 2 ^ shiftOf old → (endless ≡ false → k < lastCell) → Names new last c′ endless next step → Filling last old c′ next (k + 1) (set new (firstCell + k) step)
+  filling-more {new} {c} {c′} {start} {k} {next} {step} w h skipped e closed told =
       record {
-        begins = e ∙ (rw (add-one k) (ap (λ x. x + width) (w .begins) ∙ sym (suc-mul k width)));
+        begins = e ∙ (rw (add-one k) (ap (λ x. x + 2 ^ shiftOf old) (w .begins) ∙ sym (suc-mul k (2 ^ shiftOf old))));
         in-steps = skipped .in-list;
         passed = λ j l. omega (arith, below j l (decLt j c));
-        cells = cells-more width k step (w .cells) (omega (arith, last-cell (greatestOf old) width some)) here;
+        cells = cells-more k step (w .cells) (omega arith) here;
       }
     where
       below : (j : ℕ) → j < c′ → Dec (j < c) → getD old j 0 < start
@@ -113,24 +112,24 @@ module _ {old : List ℕ} (width last : ℕ) (long : length old ≡ ladderLength
       below j l (no p) =
           rw (← w .cells .kept .at j (omega (arith, skipped .in-list))) (skipped .passed j (omega arith) l)
 
-      here : Level old → (d : ℕ) → cellOf (greatestOf old) width d ≡ k → d ≤ greatestOf old → step < maxThresholds → Bracket old d step 1
-      here up d f l named =
-          let inside = in-cell (greatestOf old) width some {k = k} last-is (e ∙ ap (λ x. x + width) (w .begins)) (rw g at ends) f l in
+      here : Level old → (d : ℕ) → cellOf (shiftOf old) d ≡ k → step < maxThresholds → Bracket last old d step 1
+      here up d f named =
+          let inside = in-cell (shiftOf old) f in
           let a = told .lone named (level-kept (w .cells .kept) up) in
           rw (told .is named)
           (record {
             fits = omega (arith, skipped .in-list);
             passed = λ j b. omega (arith, below j b (decLt j c), inside .0, w .begins);
-            ahead = λ j b m. rw (← w .cells .kept .at j (omega arith)) (a .ahead d (inside .1) (rw (w .cells .kept .at lastStep (omega arith)) l) j (omega arith) m);
+            ahead = λ j b m. rw (← w .cells .kept .at j (omega arith)) (a .ahead d (λ is. omega (arith, inside .1 (closed is), e, w .begins)) j (omega arith) m);
           })
 
   -- all cells
-  pub filling-done : {new : List ℕ} {c start k r : ℕ} → Filling old width last c start k new → last < k → width ≡ 2 ^ shiftOf old → (r ≡ exact → ⊥) → CellsFilled old r new
+  pub filling-done : {new : List ℕ} {c start k r : ℕ} → Filling last old c start k new → cellCount ≤ k → (r ≡ exact → ⊥) → CellsFilled last old r new
   unfolding namedBy
-  filling-done {new} {c} {start} {k} w all wide plain =
-      record { kept = w .cells .kept; celled = λ e up. record { names = λ d l. named up d l }; placed = λ e. absurd (plain e) }
+  filling-done {new} w all plain =
+      record { kept = w .cells .kept; celled = λ e up. record { names = λ d. named up d }; placed = λ e. absurd (plain e) }
     where
-      named : Level old → (d : ℕ) → d ≤ greatestOf new → namedBy new d < maxThresholds → Bracket new d (namedBy new d) 1
-      named up d l =
-          rw (w .cells .kept .at lastStep (omega arith), w .cells .kept .at shiftAt (omega arith), ← wide)
-          (λ in-steps. bracket-kept (w .cells .kept) (w .cells .names up d (omega (arith, cell-to (greatestOf old) width some d)) (rw (w .cells .kept .at lastStep (omega arith)) at l) in-steps))
+      named : Level old → (d : ℕ) → namedBy new d < maxThresholds → Bracket last new d (namedBy new d) 1
+      named up d =
+          rw (w .cells .kept .at shiftAt (omega arith))
+          (λ in-steps. bracket-kept few (w .cells .kept) (w .cells .names up d (omega (arith, cell-to (shiftOf old) d)) in-steps))

@@ -31,7 +31,7 @@ spread-beside {ts} {ladder} i v h w =
     record { long = length-set ladder i v ∙ w .long; at = λ k l. getD-set-other ladder i k v 0 (λ e. omega arith) ∙ w .at k l }
 
 -- the steps, the shift, the cells, and what these are put between them
-module _ {ts first cells : List ℕ} (shift r : ℕ) (s : SpreadSteps ts maxThresholds first) (w : CellsFilled (set first shiftAt shift) r cells) where
+module _ {ts first cells : List ℕ} (shift r : ℕ) (s : SpreadSteps ts maxThresholds first) (w : CellsFilled (length ts - 1) (set first shiftAt shift) r cells) where
   pub cells-long : length cells ≡ ladderLength
   cells-long = w .kept .long ∙ length-set first shiftAt shift ∙ s .long
 
@@ -52,7 +52,7 @@ module _ {ts first cells : List ℕ} (shift r : ℕ) (s : SpreadSteps ts maxThre
         at = λ k h. kept .at k (omega arith) ∙ step k (omega arith) ∙ ap (λ (i : ℕ). getD ts i 0) {x = min k (length ts - 1)} {y = k} (omega arith);
         small = λ k h. small k;
         level = level-kept kept level;
-        celled = λ e. celled-kept told same (w .celled (λ is. e (kind-is ∙ is)) level);
+        celled = λ e. celled-kept (omega arith) told same (w .celled (λ is. e (kind-is ∙ is)) level);
         placed = λ e. placed-kept told same (w .placed (omega (arith, kind-is, e)) level);
       }
     where

@@ -1,18 +1,17 @@
 -- What is looked up in a ladder is the number of the steps that do not admit so many metres.
 use mathlib.Core.Bool.{Bool, true, false, cond}
 use mathlib.Core.List.{List}
-use mathlib.Core.Path.{_≡_, refl, sym, ap, ap₂, _∙_}
-use Prim.Native.Nat.{ℕ, suc, _+_, _-_, _/_, _%_, _^_, _≤_, _<_, min}
+use mathlib.Core.Path.{_≡_, refl, sym, ap, _∙_}
+use Prim.Native.Nat.{ℕ, suc, _+_, _-_, _≤_, _<_, min}
 use native.Mathlib.Decide.{ℕ-discrete, decLt}
-use native.Mathlib.Nat.{mod-lt, one-le-pow}
+use native.Mathlib.Nat.{mod-lt}
 use native.Mathlib.Omega.{arith}
 use borrow.Author.Tests.{le-leb, lt-leb, lt-ltb, le-ltb, eq-eqb, ne-eqb}
 use lib.Dec.{eqb, leb, ltb}
 use lib.ListN.{length, getD}
 use Rattle.model.specs.Limits.{maxThresholds}
-use Rattle.range_query.specs.Ladder.{lastStep, shiftAt, kindAt, lastCell, shiftEnd, exact, greatestOf, shiftOf, capOf, cellOf, cellsOf, narrowed, byHalves, namedBy, byStep, bySteps, placeIn, foundIn, bucketIn, Bracket, Level, Celled, Placed, LadderOf}
+use Rattle.range_query.specs.Ladder.{lastStep, shiftAt, kindAt, lastCell, shiftEnd, exact, shiftOf, cellOf, cellsOf, narrowed, byHalves, namedBy, bySteps, placeIn, foundIn, bucketIn, Bracket, Level, Celled, Placed, LadderOf}
 use Rattle.range_query.specs.declared.lookup.Cells.{Cells}
-use Rattle.range_query.proofs.Laws.Cells.{last-cell, cell-to}
 
 -- what is read of a ladder
 module _ (ladder : List ℕ) {cells : Cells} (told : cells ≡ cellsOf ladder) where
@@ -36,29 +35,13 @@ module _ (ladder : List ℕ) {cells : Cells} (told : cells ≡ cellsOf ladder) w
   unfolding foundIn
   found-steps h d = rw (← read-exact, h) refl
 
-  pub read-greatest : cells .greatest ≡ greatestOf ladder
-  unfolding cellsOf
-  read-greatest = ap (λ (c : Cells). c .greatest) told
+  -- the cell of d
+  pub cell-is : {r : ℕ} (d : ℕ) → r ≡ cellOf (cells .shift) d → r ≡ cellOf (shiftOf ladder) d
+  cell-is d e = e ∙ ap (λ (n : ℕ). cellOf n d) read-shift
 
-  read-cap : cells .cap ≡ capOf (greatestOf ladder) (2 ^ shiftOf ladder)
-  unfolding cellsOf
-  read-cap = ap (λ (c : Cells). c .cap) told
-
-  -- the last cell, and the cell of d, which is in the list
-  pub last-is : {last : ℕ} → last ≡ cells .cap / 2 ^ cells .shift → last ≡ capOf (greatestOf ladder) (2 ^ shiftOf ladder) / 2 ^ shiftOf ladder
-  last-is e = e ∙ ap₂ (λ (m n : ℕ). m / 2 ^ n) read-cap read-shift
-
-  pub cell-is : {l r : ℕ} (d : ℕ) → l ≡ min d (cells .cap) → r ≡ l / 2 ^ cells .shift → r ≡ cellOf (greatestOf ladder) (2 ^ shiftOf ladder) d
-  unfolding cellOf
-  cell-is d e f = f ∙ ap₂ (λ (m n : ℕ). m / 2 ^ n) (e ∙ ap (λ (m : ℕ). min d m) read-cap) read-shift
-
-pub cell-listed : (ladder : List ℕ) (d : ℕ) → cellOf (greatestOf ladder) (2 ^ shiftOf ladder) d ≤ lastCell
-cell-listed ladder d =
-    omega (arith, cell-to (greatestOf ladder) (2 ^ shiftOf ladder) (one-le-pow (shiftOf ladder) 2 (omega arith)) d, last-cell (greatestOf ladder) (2 ^ shiftOf ladder) (one-le-pow (shiftOf ladder) 2 (omega arith)))
-
--- b is the number of steps that do not admit d
-pub record Bucket (ladder : List ℕ) (d b : ℕ) : Type 0 where
-  pub admits : (k : ℕ) → k < maxThresholds → leb b k ≡ leb d (getD ladder k 0)
+-- b is the number of steps up to number last that do not admit d, or more than last
+pub record Bucket (last : ℕ) (ladder : List ℕ) (d b : ℕ) : Type 0 where
+  pub admits : (k : ℕ) → k ≤ last → leb b k ≡ leb d (getD ladder k 0)
 
 -- what is taken or not is at most all
 taken-to : (b : Bool) (n : ℕ) → cond b n 0 ≤ n
@@ -85,24 +68,24 @@ module _ (ladder : List ℕ) (d : ℕ) where
       go (no p) = le-leb (min (foundIn ladder d) maxThresholds) k (omega arith) ∙ sym (le-leb (foundIn ladder d) k (omega arith))
 
   -- before any step is looked at
-  bracket-all : Bracket ladder d 0 maxThresholds
-  bracket-all = record { fits = omega arith; passed = λ k h. omega arith; ahead = λ k h l. omega arith }
+  bracket-all : (last : ℕ) → last ≤ lastStep → Bracket last ladder d 0 maxThresholds
+  bracket-all last few = record { fits = omega arith; passed = λ k h. absurd (omega arith); ahead = λ k h l. absurd (omega arith) }
 
   -- no step left to look at
-  bracket-found : {pos : ℕ} → Bracket ladder d pos 0 → Bucket ladder d pos
-  bracket-found {pos} w = record { admits = λ k h. go k h (decLt k pos) }
+  bracket-found : {last pos : ℕ} → Bracket last ladder d pos 0 → Bucket last ladder d pos
+  bracket-found {last} {pos} w = record { admits = λ k h. go k h (decLt k pos) }
     where
-      go : (k : ℕ) → k < maxThresholds → Dec (k < pos) → leb pos k ≡ leb d (getD ladder k 0)
+      go : (k : ℕ) → k ≤ last → Dec (k < pos) → leb pos k ≡ leb d (getD ladder k 0)
       go k h (yes p) = lt-leb pos k p ∙ sym (lt-leb d (getD ladder k 0) (w .passed k p))
       go k h (no p) = le-leb pos k (omega arith) ∙ sym (le-leb d (getD ladder k 0) (w .ahead k (omega arith) h))
 
-module _ {ladder : List ℕ} (up : Level ladder) (d : ℕ) where
+module _ {last : ℕ} {ladder : List ℕ} (few : last ≤ lastStep) (up : Level ladder) (d : ℕ) where
   -- the last of the first half steps passed or not
-  bracket-half : {pos : ℕ} (half rest : ℕ) → 1 ≤ half → half ≤ suc rest → Bracket ladder d pos (half + rest) → Bracket ladder d (narrowed ladder d half pos) rest
+  bracket-half : {pos : ℕ} (half rest : ℕ) → 1 ≤ half → half ≤ suc rest → Bracket last ladder d pos (half + rest) → Bracket last ladder d (narrowed ladder d half pos) rest
   unfolding narrowed
-  bracket-half {pos} half rest some few w = go (decLt (getD ladder (pos + half - 1) 0) d)
+  bracket-half {pos} half rest some small w = go (decLt (getD ladder (pos + half - 1) 0) d)
     where
-      go : Dec (getD ladder (pos + half - 1) 0 < d) → Bracket ladder d (pos + cond (ltb (getD ladder (pos + half - 1) 0) d) half 0) rest
+      go : Dec (getD ladder (pos + half - 1) 0 < d) → Bracket last ladder d (pos + cond (ltb (getD ladder (pos + half - 1) 0) d) half 0) rest
       go (yes p) =
           rw (lt-ltb (getD ladder (pos + half - 1) 0) d p)
           (record {
@@ -115,13 +98,13 @@ module _ {ladder : List ℕ} (up : Level ladder) (d : ℕ) where
           (record {
             fits = omega (arith, w .fits);
             passed = λ k h. w .passed k (omega arith);
-            ahead = λ k h l. omega (arith, up .level (pos + half - 1) k (omega arith) l);
+            ahead = λ k h l. omega (arith, up .level (pos + half - 1) k (omega arith) (omega arith));
           })
 
-  halves-bucket : Bucket ladder d (byHalves ladder d)
+  halves-bucket : Bucket last ladder d (byHalves ladder d)
   unfolding byHalves
   halves-bucket =
-      let by-32 = bracket-half 32 32 (omega arith) (omega arith) (bracket-all ladder d) in
+      let by-32 = bracket-half 32 32 (omega arith) (omega arith) (bracket-all ladder d last few) in
       let by-16 = bracket-half 16 16 (omega arith) (omega arith) by-32 in
       let by-8 = bracket-half 8 8 (omega arith) (omega arith) by-16 in
       let by-4 = bracket-half 4 4 (omega arith) (omega arith) by-8 in
@@ -129,33 +112,22 @@ module _ {ladder : List ℕ} (up : Level ladder) (d : ℕ) where
       let by-1 = bracket-half 1 1 (omega arith) (omega arith) by-2 in
       bracket-found ladder d (bracket-half 1 0 (omega arith) (omega arith) by-1)
 
-  cell-bucket : Celled ladder → namedBy ladder d < maxThresholds → Bucket ladder d (byStep ladder d (namedBy ladder d))
-  unfolding byStep
-  cell-bucket cells named = go (decLt (greatestOf ladder) d)
-    where
-      go : Dec (greatestOf ladder < d) → Bucket ladder d (cond (ltb (greatestOf ladder) d) maxThresholds (narrowed ladder d 1 (namedBy ladder d)))
-      go (yes p) =
-          rw (lt-ltb (greatestOf ladder) d p)
-          (record {
-            admits = λ k l. lt-leb maxThresholds k l ∙ sym (lt-leb d (getD ladder k 0) (omega (arith, up .level k lastStep (omega arith) (omega arith))));
-          })
-      go (no p) =
-          rw (le-ltb (greatestOf ladder) d (omega arith))
-          (bracket-found ladder d (bracket-half 1 0 (omega arith) (omega arith) (cells .names d (omega arith) named)))
+  cell-bucket : Celled last ladder → namedBy ladder d < maxThresholds → Bucket last ladder d (narrowed ladder d 1 (namedBy ladder d))
+  cell-bucket cells named = bracket-found ladder d (bracket-half 1 0 (omega arith) (omega arith) (cells .names d named))
 
   -- beyond the last cell nothing is admitted, as in it
-  place-bucket : Placed ladder → Bucket ladder d (placeIn ladder d)
+  place-bucket : Placed ladder → Bucket last ladder d (placeIn ladder d)
   unfolding placeIn
   place-bucket w = go (decLt d lastCell)
     where
-      held : (c : ℕ) → c ≡ min d lastCell → Bucket ladder c (placeIn ladder d)
-      held c e = rw (← e) (bracket-found ladder c (w .places c (omega arith)))
+      held : (c k : ℕ) → c ≡ min d lastCell → k ≤ last → leb (placeIn ladder d) k ≡ leb c (getD ladder k 0)
+      held c k e h = rw (← e) (bracket-found ladder c (w .places c (omega arith)) .admits k (omega arith))
 
-      go : Dec (d < lastCell) → Bucket ladder d (placeIn ladder d)
-      go (yes p) = held d (omega arith)
+      go : Dec (d < lastCell) → Bucket last ladder d (placeIn ladder d)
+      go (yes p) = record { admits = λ k h. held d k (omega arith) h }
       go (no p) =
           record {
-            admits = λ k l. let low : getD ladder k 0 < lastCell = omega (arith, w .beyond, up .level k lastStep (omega arith) (omega arith)) in held lastCell (omega arith) .admits k l ∙ lt-leb lastCell (getD ladder k 0) low ∙ sym (lt-leb d (getD ladder k 0) (omega (arith, low)));
+            admits = λ k h. let low : getD ladder k 0 < lastCell = omega (arith, w .beyond, up .level k lastStep (omega arith) (omega arith)) in held lastCell k (omega arith) h ∙ lt-leb lastCell (getD ladder k 0) low ∙ sym (lt-leb d (getD ladder k 0) (omega (arith, low)));
           }
 
 -- in the ladder of so many thresholds
@@ -163,12 +135,15 @@ pub bucket-right : {ts ladder : List ℕ} → LadderOf ts ladder → (d k : ℕ)
 unfolding foundIn bySteps
 bucket-right {ts} {ladder} w d k h =
     bucket-found ladder d k (omega (arith, w .few))
-    ∙ rw (← w .at k h) (at-once (ℕ-discrete (getD ladder kindAt 0) exact) .admits k (omega (arith, w .few)))
+    ∙ rw (← w .at k h) (at-once (ℕ-discrete (getD ladder kindAt 0) exact) .admits k (omega arith))
   where
-    go : (getD ladder kindAt 0 ≡ exact → ⊥) → Dec (namedBy ladder d < maxThresholds) → Bucket ladder d (bySteps ladder d)
-    go plain (yes p) = rw (lt-ltb (namedBy ladder d) maxThresholds p) (cell-bucket (w .level) d (w .celled plain) p)
-    go plain (no p) = rw (le-ltb (namedBy ladder d) maxThresholds (omega arith)) (halves-bucket (w .level) d)
+    few : length ts - 1 ≤ lastStep
+    few = omega (arith, w .few)
 
-    at-once : Dec (getD ladder kindAt 0 ≡ exact) → Bucket ladder d (foundIn ladder d)
-    at-once (yes p) = rw (eq-eqb (getD ladder kindAt 0) exact p) (place-bucket (w .level) d (w .placed p))
+    go : (getD ladder kindAt 0 ≡ exact → ⊥) → Dec (namedBy ladder d < maxThresholds) → Bucket (length ts - 1) ladder d (bySteps ladder d)
+    go plain (yes p) = rw (lt-ltb (namedBy ladder d) maxThresholds p) (cell-bucket few (w .level) d (w .celled plain) p)
+    go plain (no p) = rw (le-ltb (namedBy ladder d) maxThresholds (omega arith)) (halves-bucket few (w .level) d)
+
+    at-once : Dec (getD ladder kindAt 0 ≡ exact) → Bucket (length ts - 1) ladder d (foundIn ladder d)
+    at-once (yes p) = rw (eq-eqb (getD ladder kindAt 0) exact p) (place-bucket few (w .level) d (w .placed p))
     at-once (no p) = rw (ne-eqb (getD ladder kindAt 0) exact p) (go p (decLt (namedBy ladder d) maxThresholds))

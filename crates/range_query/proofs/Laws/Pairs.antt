@@ -39,6 +39,11 @@ stretch false m n t = or-false (leb m t)
     or-false true = refl
     or-false false = refl
 
+-- between two edges there is no other way than by the ends
+pub metres-by-ends : (w : EdgePair) (x y : ℕ) → w .same ≡ false → byEnds w x y ≡ metresBetween w x y
+unfolding metresBetween
+metres-by-ends w x y two = rw two refl
+
 -- the metres are within a threshold exactly when the place is reached
 pub metres-reached : (t : ℕ) → t < 4294967296 → (w : EdgePair) (x y : ℕ) → leb (metresBetween w x y) t ≡ isReached t w x y
 unfolding metresBetween byEnds

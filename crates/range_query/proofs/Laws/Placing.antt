@@ -16,7 +16,7 @@ pub record Placing (old : List ℕ) (c k : ℕ) (new : List ℕ) : Type 0 where
   pub kept : StepsKept old new
   pub in-steps : c ≤ maxThresholds
   pub passed : (j : ℕ) → j < c → getD old j 0 < k
-  pub cells : Level old → (d : ℕ) → d < k → Bracket old d (getD new (firstCell + d) 0) 0
+  pub cells : Level old → (d : ℕ) → d < k → Bracket lastStep old d (getD new (firstCell + d) 0) 0
 
 pub placing-none : (old : List ℕ) → Placing old 0 0 old
 placing-none old =
@@ -35,18 +35,18 @@ placing-more {old} {new} {c} {c′} {k} w long h skipped =
     below j l (yes p) = w .passed j p
     below j l (no p) = rw (← w .kept .at j (omega (arith, skipped .in-list))) (skipped .passed j (omega arith) l)
 
-    reached : (j : ℕ) → c′ ≤ j → j < maxThresholds → k ≤ getD new c′ 0
+    reached : (j : ℕ) → c′ ≤ j → j ≤ lastStep → k ≤ getD new c′ 0
     reached j b m = skipped .stops (omega arith)
 
-    here : Level old → Bracket old k c′ 0
+    here : Level old → Bracket lastStep old k c′ 0
     here up =
         record {
           fits = omega (arith, skipped .in-list);
           passed = λ j l. below j l (decLt j c);
-          ahead = λ j b m. omega (arith, reached j (omega arith) m, w .kept .at c′ (omega arith), up .level c′ j (omega arith) m);
+          ahead = λ j b m. omega (arith, reached j (omega arith) m, w .kept .at c′ (omega arith), up .level c′ j (omega arith) (omega arith));
         }
 
-    go : Level old → (d : ℕ) → d < k + 1 → Dec (d < k) → Bracket old d (getD (set new (firstCell + k) c′) (firstCell + d) 0) 0
+    go : Level old → (d : ℕ) → d < k + 1 → Dec (d < k) → Bracket lastStep old d (getD (set new (firstCell + k) c′) (firstCell + d) 0) 0
     go up d l (yes p) = rw (getD-set-other new (firstCell + k) (firstCell + d) c′ 0 (λ e. omega arith)) (w .cells up d p)
     go up d l (no p) =
         let e : d ≡ k = omega arith in
@@ -56,12 +56,12 @@ pub placing-done : {old new : List ℕ} {c k : ℕ} → Placing old c k new → 
 placing-done w all = record { kept = w .kept; places = λ up d l. w .cells up d (omega arith) }
 
 -- all below the last cell
-pub places-filled : {old new : List ℕ} → PlacesFilled old new → greatestOf old < lastCell → CellsFilled old exact new
+pub places-filled : {last : ℕ} {old new : List ℕ} → PlacesFilled old new → greatestOf old < lastCell → CellsFilled last old exact new
 places-filled w few =
     record {
       kept = w .kept;
       celled = λ e. absurd (e refl);
-      placed = λ e up. record { beyond = rw (w .kept .at lastStep (omega arith)) few; places = λ d l. bracket-kept (w .kept) (w .places up d l) };
+      placed = λ e up. record { beyond = rw (w .kept .at lastStep (omega arith)) few; places = λ d l. bracket-kept (omega arith) (w .kept) (w .places up d l) };
     }
 
 -- the same cells behind the same steps
@@ -69,5 +69,5 @@ pub placed-kept : {old new : List ℕ} → StepsKept old new → ((k : ℕ) → 
 placed-kept kept same w =
     record {
       beyond = rw (kept .at lastStep (omega arith)) (w .beyond);
-      places = λ d l. rw (same d) (bracket-kept kept (w .places d l));
+      places = λ d l. rw (same d) (bracket-kept (omega arith) kept (w .places d l));
     }

@@ -42,20 +42,20 @@ equals-end-requires c κs = search needs
 sub-many : tie.Need-sub-many Inv-loop μ-loop
 sub-many c = omega (arith, run c .further)
 
-mul-add-row-before : tie.Need-mul-add-row-before Inv-loop μ-loop
-mul-add-row-before c = search needs
+mul-add-row-along : tie.Need-mul-add-row-along Inv-loop μ-loop
+mul-add-row-along c = search needs
 
-shared-slice-read-add-row-before : tie.Need-shared-slice-read-add-row-before Inv-loop μ-loop
-shared-slice-read-add-row-before c = search needs
+shared-slice-read-add-row-along : tie.Need-shared-slice-read-add-row-along Inv-loop μ-loop
+shared-slice-read-add-row-along c = search needs
 
-mul-add-row-before-2 : tie.Need-mul-add-row-before-2 Inv-loop μ-loop
-mul-add-row-before-2 c = omega (arith, run (c .before) .within, c .before .before .before .before .before .before .before .before .pre .3)
+mul-add-row-along-2 : tie.Need-mul-add-row-along-2 Inv-loop μ-loop
+mul-add-row-along-2 c = omega (arith, run (c .before) .within, c .before .before .before .before .before .before .before .before .pre .3)
 
-slice-aggregate-add-row-before : tie.Need-slice-aggregate-add-row-before Inv-loop μ-loop
-slice-aggregate-add-row-before c = sym (length-take-le _ _ (c .before .before .before .before .loop .inv .0))
+slice-aggregate-add-row-along : tie.Need-slice-aggregate-add-row-along Inv-loop μ-loop
+slice-aggregate-add-row-along c = sym (length-take-le _ _ (c .before .before .before .before .loop .inv .0))
 
-add-row-before-requires : tie.Need-add-row-before-requires Inv-loop μ-loop
-add-row-before-requires c κs = search needs
+add-row-along-requires : tie.Need-add-row-along-requires Inv-loop μ-loop
+add-row-along-requires c κs = search needs
 
 mul-change-from : tie.Need-mul-change-from Inv-loop μ-loop
 mul-change-from c = omega (arith, few (c .before .before .before .before .before .before .before .equals-end .result - c .before .before .before .before .before .before .before .before .before .loop .i) (omega (arith, run (c .before .before .before .before .before .before .before) .within, c .before .before .before .before .before .before .before .before .before .before .before .before .before .before .pre .3)))
@@ -67,7 +67,7 @@ loop-less : tie.Need-loop-less Inv-loop μ-loop
 loop-less c = omega (arith, run (c .before .before .before .before .before .before .before .before .before .before) .further, run (c .before .before .before .before .before .before .before .before .before .before) .within)
 
 loop-again : tie.Need-loop-again Inv-loop μ-loop
-loop-again c = (run (c .before .before .before .before .before .before .before .before .before .before) .within, own-more (c .before .before .before .before .before .before .before .before .before .before .before .before .before .before .before .before .before .args .ladder .now) (c .before .before .before .before .before .before .before .before .before .before .before .before .before .before .before .before .before .args .edges) (c .before .before .before .before .before .before .before .before .before .before .before .before .before .before .before .before .before .args .xs .now) (c .before .before .before .before .before .before .before .before .before .before .before .before .before .before .before .before .before .pre .2) (run (c .before .before .before .before .before .before .before .before .before .before)) (c .before .before .before .before .before .before .before .before .before .before .before .before .before .find .ensures) (c .before .before .before .before .before .before .before .before .before .before .before .before .loop .inv .1) (row-found (c .before .before .before .before .before .before .before .before .before .before .before .before .before .before .before .before .before .args .ladder .now) _ (metresBetween (c .before .before .before .before .before .before .before .before .before .before .before .before .before .before .before .before .before .args .edges) (getD (c .before .before .before .before .before .before .before .before .before .before .before .before .before .before .before .before .before .args .xs .now) (c .before .before .before .before .before .before .before .before .before .before .before .before .loop .i) 0)) (foundIn (c .before .before .before .before .before .before .before .before .before .before .before .before .before .before .before .before .before .args .ladder .now)) (take (c .before .before .before .before .before .before .before .before .before .before .before .before .loop .i) (c .before .before .before .before .before .before .before .before .before .before .before .before .before .before .before .before .before .args .xs .now)) (λ d. refl) (c .before .before .before .before .before .before .add-row-before .ensures)) (c .before .before .change-from .ensures))
+loop-again c = (run (c .before .before .before .before .before .before .before .before .before .before) .within, own-more (c .before .before .before .before .before .before .before .before .before .before .before .before .before .before .before .before .before .args .ladder .now) (c .before .before .before .before .before .before .before .before .before .before .before .before .before .before .before .before .before .args .edges) (c .before .before .before .before .before .before .before .before .before .before .before .before .before .before .before .before .before .args .xs .now) (c .before .before .before .before .before .before .before .before .before .before .before .before .before .before .before .before .before .pre .2) (run (c .before .before .before .before .before .before .before .before .before .before)) (c .before .before .before .before .before .before .before .before .before .before .before .before .before .find .ensures) (c .before .before .before .before .before .before .before .before .before .before .before .before .loop .inv .1) (row-found (c .before .before .before .before .before .before .before .before .before .before .before .before .before .before .before .before .before .args .ladder .now) _ (metresBetween (c .before .before .before .before .before .before .before .before .before .before .before .before .before .before .before .before .before .args .edges) (getD (c .before .before .before .before .before .before .before .before .before .before .before .before .before .before .before .before .before .args .xs .now) (c .before .before .before .before .before .before .before .before .before .before .before .before .loop .i) 0)) (foundIn (c .before .before .before .before .before .before .before .before .before .before .before .before .before .before .before .before .before .args .ladder .now)) (take (c .before .before .before .before .before .before .before .before .before .before .before .before .loop .i) (c .before .before .before .before .before .before .before .before .before .before .before .before .before .before .before .before .before .args .xs .now)) (λ d. refl) (c .before .before .before .before .before .before .add-row-along .ensures)) (c .before .before .change-from .ensures))
 
 same-length : tie.Need-same-length Inv-loop μ-loop
 same-length c = c .before .loop .inv .1 .same-length
@@ -76,4 +76,4 @@ returns : tie.Need-returns Inv-loop μ-loop
 returns c = let e : c .before .loop .i ≡ length (c .before .before .before .before .before .before .args .xs .now) = omega arith in own-all (c .before .before .before .before .before .before .args .ladder .now) (c .before .before .before .before .before .before .args .edges) (c .before .before .before .before .before .before .args .xs .now) e (c .before .loop .inv .1)
 
 pub add-own-spec : {M : Type 1} → statement M
-add-own-spec = tie.close (tie.spec Inv-loop μ-loop find-requires loop-holds equals-end-requires sub-many mul-add-row-before shared-slice-read-add-row-before mul-add-row-before-2 slice-aggregate-add-row-before add-row-before-requires mul-change-from change-from-requires loop-less loop-again same-length returns)
+add-own-spec = tie.close (tie.spec Inv-loop μ-loop find-requires loop-holds equals-end-requires sub-many mul-add-row-along shared-slice-read-add-row-along mul-add-row-along-2 slice-aggregate-add-row-along add-row-along-requires mul-change-from change-from-requires loop-less loop-again same-length returns)

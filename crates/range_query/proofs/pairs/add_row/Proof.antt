@@ -8,7 +8,7 @@ use Rattle.range_query.proofs.pairs.add_row.Statement.{statement}
 use Rattle.range_query.proofs.pairs.add_row.Tie as tie
 
 add-row-by-places-requires : tie.Need-add-row-by-places-requires
-add-row-by-places-requires c κs = search needs
+add-row-by-places-requires c κs = (c .before .before .before .before .before .pre .0, c .before .before .before .before .before .pre .2)
 
 add-row-by-steps-requires : tie.Need-add-row-by-steps-requires
 add-row-by-steps-requires c κs = search needs

@@ -10,7 +10,7 @@ use Rattle.edge_pair.specs.Edges.{sideOf}
 use Rattle.edge_pair.specs.Totals.{Added}
 use Rattle.range_query.specs.Ladder.{bySteps}
 use Rattle.range_query.specs.Metres.{metresBetween}
-use Rattle.range_query.proofs.Laws.Pairs.{row-none, row-more, row-all}
+use Rattle.range_query.proofs.Laws.Pairs.{metres-by-ends, row-none, row-more, row-all}
 use borrow.Author.Needs.{needs}
 use Rattle.range_query.proofs.pairs.add_row_by_steps.Statement.{statement}
 use Rattle.range_query.proofs.pairs.add_row_by_steps.Tie as tie
@@ -30,15 +30,15 @@ to-end-requires-2 c κs = search needs
 loop-holds : tie.Need-loop-holds Inv-loop μ-loop
 loop-holds c = (omega arith, row-none _ _ (λ y. bySteps (c .before .before .before .before .before .args .ladder .now) (metresBetween (c .before .before .before .before .before .args .edges) (c .before .before .before .before .before .args .x) y)) (c .before .before .before .before .before .args .ys .now) _)
 
-mul-meet : tie.Need-mul-meet Inv-loop μ-loop
-mul-meet c = search needs
+mul-by-ends : tie.Need-mul-by-ends Inv-loop μ-loop
+mul-by-ends c = search needs
 
-shared-slice-read-meet : tie.Need-shared-slice-read-meet Inv-loop μ-loop
-shared-slice-read-meet c = search needs
+shared-slice-read-by-ends : tie.Need-shared-slice-read-by-ends Inv-loop μ-loop
+shared-slice-read-by-ends c = search needs
 
-meet-requires : tie.Need-meet-requires Inv-loop μ-loop
+by-ends-requires : tie.Need-by-ends-requires Inv-loop μ-loop
 unfolding sideOf
-meet-requires c κs = (c .before .before .before .before .to-end .ensures .1, c .before .before .before .to-end2 .ensures .1, c .before .before .before .before .to-end .ensures .0, c .before .before .before .to-end2 .ensures .0)
+by-ends-requires c κs = (c .before .before .before .before .to-end .ensures .1, c .before .before .before .to-end2 .ensures .1, c .before .before .before .before .to-end .ensures .0, c .before .before .before .to-end2 .ensures .0)
 
 by-steps-requires : tie.Need-by-steps-requires Inv-loop μ-loop
 by-steps-requires c κs = (c .before .before .before .before .before .before .before .before .before .pre .0, c .before .before .before .before .before .before .before .before .before .pre .1)
@@ -53,7 +53,7 @@ loop-less : tie.Need-loop-less Inv-loop μ-loop
 loop-less c = search needs
 
 loop-again : tie.Need-loop-again Inv-loop μ-loop
-loop-again c = (omega arith, row-more _ _ (λ y. bySteps (c .before .before .before .before .before .before .before .before .before .before .before .before .before .before .args .ladder .now) (metresBetween (c .before .before .before .before .before .before .before .before .before .before .before .before .before .before .args .edges) (c .before .before .before .before .before .before .before .before .before .before .before .before .before .before .args .x) y)) (c .before .before .before .before .before .before .before .before .before .before .before .before .before .before .args .ys .now) (c .before .before .before .before .before .before .before .before .loop .j) (c .before .before .before .before .by-steps .ensures ∙ ap (bySteps (c .before .before .before .before .before .before .before .before .before .before .before .before .before .before .args .ladder .now)) (c .before .before .before .before .before .meet .ensures)) (c .before .before .before .before .before .before .before .before .loop .inv .1) (c .before .before .change-from .ensures))
+loop-again c = (omega arith, row-more _ _ (λ y. bySteps (c .before .before .before .before .before .before .before .before .before .before .before .before .before .before .args .ladder .now) (metresBetween (c .before .before .before .before .before .before .before .before .before .before .before .before .before .before .args .edges) (c .before .before .before .before .before .before .before .before .before .before .before .before .before .before .args .x) y)) (c .before .before .before .before .before .before .before .before .before .before .before .before .before .before .args .ys .now) (c .before .before .before .before .before .before .before .before .loop .j) (c .before .before .before .before .by-steps .ensures ∙ ap (bySteps (c .before .before .before .before .before .before .before .before .before .before .before .before .before .before .args .ladder .now)) (c .before .before .before .before .before .by-ends .ensures ∙ metres-by-ends (c .before .before .before .before .before .before .before .before .before .before .before .before .before .before .args .edges) (c .before .before .before .before .before .before .before .before .before .before .before .before .before .before .args .x) (getD (c .before .before .before .before .before .before .before .before .before .before .before .before .before .before .args .ys .now) (c .before .before .before .before .before .before .before .before .loop .j) 0) (c .before .before .before .before .before .before .before .before .before .before .before .before .before .before .pre .2))) (c .before .before .before .before .before .before .before .before .loop .inv .1) (c .before .before .change-from .ensures))
 
 same-length : tie.Need-same-length Inv-loop μ-loop
 same-length c = c .before .loop .inv .1 .same-length
@@ -62,4 +62,4 @@ returns : tie.Need-returns Inv-loop μ-loop
 returns c = let e : c .before .loop .j ≡ length (c .before .before .before .before .before .before .before .args .ys .now) = omega arith in row-all _ _ (λ y. bySteps (c .before .before .before .before .before .before .before .args .ladder .now) (metresBetween (c .before .before .before .before .before .before .before .args .edges) (c .before .before .before .before .before .before .before .args .x) y)) (c .before .before .before .before .before .before .before .args .ys .now) e (c .before .loop .inv .1)
 
 pub add-row-by-steps-spec : {M : Type 1} → statement M
-add-row-by-steps-spec = tie.close (tie.spec Inv-loop μ-loop to-end-requires to-end-requires-2 loop-holds mul-meet shared-slice-read-meet meet-requires by-steps-requires change-from-requires add-j loop-less loop-again same-length returns)
+add-row-by-steps-spec = tie.close (tie.spec Inv-loop μ-loop to-end-requires to-end-requires-2 loop-holds mul-by-ends shared-slice-read-by-ends by-ends-requires by-steps-requires change-from-requires add-j loop-less loop-again same-length returns)

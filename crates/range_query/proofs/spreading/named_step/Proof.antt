@@ -9,7 +9,7 @@ is-alone-requires : tie.Need-is-alone-requires
 is-alone-requires c κs = search needs
 
 returns : tie.Need-returns
-returns c = record { to-steps = omega (arith, c .before .before .before .pre .1); is = λ h. refl; lone = λ h. c .before .is-alone .ensures (c .if1 .taken) }
+returns c = record { to-steps = omega (arith, c .before .before .before .pre .1, c .before .before .before .pre .2); is = λ h. refl; lone = λ h. c .before .is-alone .ensures (c .if1 .taken) }
 
 returns-2 : tie.Need-returns-2
 returns-2 c = record { to-steps = omega arith; is = λ h. absurd (omega arith); lone = λ h. absurd (omega arith) }

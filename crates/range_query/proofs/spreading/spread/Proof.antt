@@ -31,6 +31,9 @@ shift-for-requires c κs = search needs
 slice-write-ladder-2 : tie.Need-slice-write-ladder-2
 slice-write-ladder-2 c = omega (arith, spread-beside widestAt (c .before .widest-gap .result) (omega arith) (c .before .before .before .before .spread-steps .ensures) .long)
 
+sub-fill : tie.Need-sub-fill
+sub-fill c = search needs
+
 fill-requires : tie.Need-fill-requires
 fill-requires c κs = search needs
 
@@ -44,4 +47,4 @@ returns-4 : tie.Need-returns-4
 returns-4 c = (spread-long _ _ (spread-beside widestAt (c .before .before .before .before .before .widest-gap .result) (omega arith) (c .before .before .before .before .before .before .before .before .spread-steps .ensures)) (c .before .before .fill .ensures) ∙ sym (c .before .before .before .before .before .before .before .before .before .before .before .before .if1 .left), λ e some few rising. all-spread _ _ (spread-beside widestAt (c .before .before .before .before .before .widest-gap .result) (omega arith) (c .before .before .before .before .before .before .before .before .spread-steps .ensures)) (c .before .before .fill .ensures) some few (λ k. c .before .before .before .before .before .before .before .before .before .before .before .before .before .before .shared-slice-known .given k .fits) rising)
 
 pub spread-spec : {M : Type 1} → statement M
-spread-spec = tie.close (tie.spec returns returns-2 returns-3 spread-steps-requires widest-gap-requires slice-write-ladder shift-for-requires slice-write-ladder-2 fill-requires slice-write-ladder-3 same-length returns-4)
+spread-spec = tie.close (tie.spec returns returns-2 returns-3 spread-steps-requires widest-gap-requires slice-write-ladder shift-for-requires slice-write-ladder-2 sub-fill fill-requires slice-write-ladder-3 same-length returns-4)
