@@ -12,7 +12,6 @@ use crate::method::Method;
 use edge_pair::EdgePair;
 use edge_pair::greatest_distance;
 use edge_pair::shortest_route;
-use edge_pair::way;
 use model::less;
 use model::lesser;
 use model::value_at;
@@ -30,7 +29,7 @@ pub enum Kernel {
 }
 
 // Up to so many pairs are looked at one by one, unless the first threshold admits all of them or only the last one admits any.
-const FEWEST_PAIRS: u64 = 1;
+const FEWEST_PAIRS: u64 = 4;
 
 // Up to so many are, where some threshold may part them.
 const FEW_PAIRS: u64 = 25;
@@ -38,12 +37,21 @@ const FEW_PAIRS: u64 = 25;
 // Up to so many events of the second run are compared with the one threshold that parts the pairs.
 const FEW_TO_COMPARE: usize = 10;
 
-// More pairs are looked at one by one where twice the events of the second run are at most so many times the thresholds that may part
-// them. On one edge looking numbers up takes longer, and so does moving cursors, and of a run with itself each two events are looked at
-// once, so that the limit is higher.
-const TWICE_A_THRESHOLD: u64 = 3;
+// Up to so many are with nothing else asked, where twice the length of both edges is at least three times the widest gap between two
+// thresholds or before the first.
+const PARTED_PAIRS: u64 = 120;
 
-const TWICE_A_THRESHOLD_ON_ONE_EDGE: u64 = 20;
+const WIDEST_GAPS: u64 = 3;
+
+const LENGTHS: u64 = 2;
+
+// More pairs of two edges are looked at one by one where the second run has at most so many events for each threshold that may part
+// them.
+const EVENTS_A_THRESHOLD: u64 = 4;
+
+// On one edge it may have so many for each. There looking numbers up takes longer, and so does moving cursors, and of a run with itself
+// each two events are looked at once.
+const EVENTS_A_THRESHOLD_ON_ONE_EDGE: u64 = 15;
 
 // Moving cursors over so many events at one offset counts as much as moving them on to another offset.
 const EVENTS_TO_AN_OFFSET: u64 = 16;
@@ -59,13 +67,13 @@ pub(crate) fn pairs_of(a: usize, b: usize) -> u64
 }
 
 // The limit for two edges, or for one edge with itself.
-fn twice_a_threshold(same: bool) -> u64
-    ensures { λ r. ⌜ r ≤ 20 ⌝ }
+fn events_a_threshold(same: bool) -> u64
+    ensures { λ r. ⌜ r ≤ 15 ⌝ }
 {
     if same {
-        TWICE_A_THRESHOLD_ON_ONE_EDGE
+        EVENTS_A_THRESHOLD_ON_ONE_EDGE
     } else {
-        TWICE_A_THRESHOLD
+        EVENTS_A_THRESHOLD
     }
 }
 
@@ -77,6 +85,23 @@ fn cursors_pay(length: u32, events: u64, thresholds: u64, parting: u64) -> bool 
     let moves = lesser(thresholds, MANY) * (passed + EVENTS_TO_AN_OFFSET * offsets);
     let looks = lesser(parting, MANY) * (2 * EVENTS_TO_AN_OFFSET * offsets);
     moves <= looks
+}
+
+// How many of so many thresholds part the pairs of one event with those of the second run, in the mean over the first edge. All do, unless
+// they lie within fewer metres than half of both edges: most events of the first edge are then too far away from the second for any.
+fn parting(edges: EdgePair, between: u64, last: u32) -> u64
+    ensures { λ r. ⌜ r ≤ 65536 ⌝ }
+{
+    let all = lesser(between, MANY);
+    if edges.same {
+        return all;
+    }
+    let both = edges.length1 as u64 + edges.length2 as u64;
+    let twice = 2 * less(last as u64, shortest_route(edges));
+    if both <= twice {
+        return all;
+    }
+    lesser(all * twice / both, MANY)
 }
 
 // Looking at pairs one by one, moving cursors or looking numbers up, by how many of so many thresholds may part the pairs, from the one
@@ -93,7 +118,9 @@ fn by_thresholds(
     let admits_all = first_admitting(ladder, greatest_distance(edges));
     let to = lesser(admits_all as u64, thresholds as u64);
     let between = lesser(less(to, from as u64), MANY);
-    if 2 * lesser(others as u64, MANY) <= twice_a_threshold(edges.same) * between {
+    let last = value_at(ladder, less(to, 1) as usize);
+    let parted = parting(edges, between, last);
+    if lesser(others as u64, MANY) <= events_a_threshold(edges.same) * parted {
         return Kernel::RangeQuery;
     }
     if !edges.same {
@@ -105,37 +132,15 @@ fn by_thresholds(
     Kernel::CountAugmentation
 }
 
-// Twice the events of the second run, which are to be at most so many times the thresholds that part the pairs; for few pairs one
-// threshold is enough.
-fn twice_needed(pairs: u64, others: usize) -> u64
-    ensures { λ r. ⌜ r ≤ 131072 ⌝ }
-{
-    if pairs <= FEW_PAIRS {
-        TWICE_A_THRESHOLD
-    } else {
-        2 * lesser(others as u64, MANY)
-    }
-}
-
-// So many pairs of two edges are surely parted by thresholds enough for each to be looked at by itself. The two have first ends within
-// the greatest threshold of each other, and from their nearest to their farthest pair are at least half as many metres as both have: in
-// these lies a threshold for each widest gap, but for one.
-fn parted_often(
-    edges: EdgePair,
-    pairs: u64,
-    others: usize,
-    thresholds: &[u32],
-    ladder: &[u32],
-) -> bool {
-    let count = thresholds.len();
-    if count < 1 {
+// There are not many pairs, and the two edges are long beside the gaps between thresholds, so that thresholds are likely to part the
+// pairs.
+fn are_likely_parted(edges: EdgePair, pairs: u64, ladder: &[u32]) -> bool {
+    if PARTED_PAIRS < pairs {
         return false;
     }
-    let greatest = thresholds[count - 1] as u64;
     let widest = value_at(ladder, WIDEST_AT) as u64;
     let both = edges.length1 as u64 + edges.length2 as u64;
-    let needed = (2 * twice_needed(pairs, others) + 2 * TWICE_A_THRESHOLD) * widest;
-    (way(edges.ff) <= greatest) & (needed <= TWICE_A_THRESHOLD * both)
+    WIDEST_GAPS * widest <= LENGTHS * both
 }
 
 // The threshold at a place admits so many metres, or there is none.
@@ -173,7 +178,7 @@ fn cheapest(
     ensures { λ r. ⌜ (Ordered (now (thresholds .entry)) → LadderOf (now (thresholds .entry)) (now (ladder .entry)) → Right (now (thresholds .entry)) edges r) ⌝ }
 {
     let pairs = pairs_of(events, others);
-    if parted_often(edges, pairs, others, thresholds, ladder) {
+    if are_likely_parted(edges, pairs, ladder) {
         return Kernel::RangeQuery;
     }
     let far = greatest_distance(edges);

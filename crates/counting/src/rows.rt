@@ -51,8 +51,9 @@ fn write_row(totals: &[u64], events: u64, row: &mut [u32])
     }
 }
 
-// The count at each threshold of a set whose runs are those from r up to before q and have so many events: each two runs are looked at
-// once, and count both ways.
+// The count at each threshold of a set whose runs are those from r up to before q and have so many events. The first turn takes each run
+// with the earlier ones of its set, the second takes each run with itself, and the totals of the first are doubled in between, because
+// each two runs are looked at once and count both ways. There is one call, so that the compiler can compile the loops into this function.
 pub(crate) fn set_row(
     method: Method,
     nodes: u32,
@@ -77,46 +78,30 @@ pub(crate) fn set_row(
     ensures { λ _. ⌜ now (row .exit) ≡ otherRow (network nodes (now (firsts .entry)) (now (seconds .entry)) (now (lengths .entry))) (now (edges .entry)) (now (offsets .entry)) (now (bounds .entry)) (now (thresholds .entry)) r q ⌝ }
 {
     let mut totals = [0u64; TOTALS];
-    add_each(
-        method,
-        nodes,
-        firsts,
-        seconds,
-        lengths,
-        table,
-        edges,
-        offsets,
-        bounds,
-        near_first,
-        near_second,
-        thresholds,
-        ladder,
-        runs,
-        false,
-        r,
-        q,
-        &mut totals,
-    );
-    double(&mut totals);
-    add_each(
-        method,
-        nodes,
-        firsts,
-        seconds,
-        lengths,
-        table,
-        edges,
-        offsets,
-        bounds,
-        near_first,
-        near_second,
-        thresholds,
-        ladder,
-        runs,
-        true,
-        r,
-        q,
-        &mut totals,
-    );
+    let mut turn: u64 = 0;
+    while turn < 2 {
+        double(&mut totals);
+        add_each(
+            method,
+            nodes,
+            firsts,
+            seconds,
+            lengths,
+            table,
+            edges,
+            offsets,
+            bounds,
+            near_first,
+            near_second,
+            thresholds,
+            ladder,
+            runs,
+            turn == 1,
+            r,
+            q,
+            &mut totals,
+        );
+        turn += 1;
+    }
     write_row(&totals, events, row);
 }

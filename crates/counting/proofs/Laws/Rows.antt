@@ -1,16 +1,17 @@
--- Entries doubled one after the other, and a row of counts written from totals.
-use mathlib.Core.Bool.{true, false}
+-- Entries doubled one after the other, a row of counts written from totals, and the totals of a set after each of its two turns.
 use mathlib.Core.List.{List, map}
 use mathlib.Core.Path.{_≡_, _∙_, refl, sym, ap}
 use Prim.Native.Nat.{ℕ, zero, suc, _+_, _-_, _*_, _%_, _≤_, _<_, min}
 use native.Mathlib.Decide.{ℕ-discrete}
 use native.Mathlib.Omega.{arith}
-use lib.ListN.{length, getD, set, length-set, length-map, replicate}
+use lib.Dec.{eqb}
+use lib.ListN.{length, getD, set, length-set, length-map, replicate, length-replicate}
 use lib.Seq.{getD-set-same, getD-set-other}
 use Rattle.model.proofs.Laws.Counting.{sum-below-zero}
 use Rattle.model.proofs.Laws.Lists.{all-entries, map-at}
 use Rattle.model.proofs.Laws.Zeros.{cleared}
 use Rattle.model.specs.Counting.{sumBelow}
+use Rattle.model.specs.Limits.{maxThresholds}
 use Rattle.model.specs.Network.{Network}
 use Rattle.edge_pair.proofs.Laws.Totals.{same-of, same-then, same-both, same-rest, same-small, same-turn}
 use Rattle.edge_pair.specs.Totals.{wrap, Same64, totalAt, Added}
@@ -81,41 +82,64 @@ row-more {totals} {events} {k} {total} {old} {row} next v w h e small count =
 pub row-done : {totals : List ℕ} {events k total : ℕ} {old row : List ℕ} → RowTo totals events k total old row → length row ≤ k → RowWritten totals events (length old) row
 row-done w h = record { long = w .same-length; at = λ j l. w .before j (omega (arith, w .same-length)) }
 
--- totals of zeros
-pub zero-total : (n k : ℕ) → totalAt (replicate n 0) k ≡ 0
-unfolding totalAt
-zero-total n k = sum-below-zero (suc k) _ (λ j h. cleared n refl j)
+-- the pairs of n runs from run r on that have been added after so many turns: each turn doubles them first, and the second takes each
+-- run with itself
+unfoldable pub pairsAfter : Network → List ℕ → List ℕ → List ℕ → ℕ → ℕ → ℕ → ℕ → ℕ
+pairsAfter net es xs bounds t r n zero = 0
+pairsAfter net es xs bounds t r n (suc turn) = 2 * pairsAfter net es xs bounds t r n turn + eachPairs net es xs bounds (eqb turn 1) t r n
+
+-- the totals after so many turns
+pub record TurnsTo (net : Network) (es xs bounds ts : List ℕ) (r q turn : ℕ) (totals : List ℕ) : Type 0 where
+  pub most : turn ≤ 2
+  pub long : length totals ≡ suc maxThresholds
+  pub at : (k : ℕ) → k < length ts → Same64 (totalAt totals k) (pairsAfter net es xs bounds (getD ts k 0) r (q - r) turn)
+
+pub no-turn : {net : Network} {es xs bounds ts : List ℕ} {r q : ℕ} → TurnsTo net es xs bounds ts r q 0 (replicate (suc maxThresholds) 0)
+unfolding totalAt pairsAfter
+no-turn =
+    record {
+      most = omega arith;
+      long = length-replicate {A = ℕ} (suc maxThresholds) 0;
+      at = λ k h. same-of (sum-below-zero (suc k) _ (λ j l. cleared (suc maxThresholds) refl j));
+    }
 
 -- the row of a set
-module _ {net : Network} {es xs bounds ts : List ℕ} {r q : ℕ} (fits : RowFits net es xs bounds ts r q) {none earlier twice totals : List ℕ} {events : ℕ}
-    (zero-at : (k : ℕ) → k < length ts → totalAt none k ≡ 0) (room : length ts ≤ length none)
-    (first : Added (length ts) (λ k. eachPairs net es xs bounds false (getD ts k 0) r (q - r)) none earlier) (doubled : Doubled earlier twice)
-    (second : Added (length ts) (λ k. eachPairs net es xs bounds true (getD ts k 0) r (q - r)) twice totals)
-    (events-are : events ≡ getD bounds q 0 - getD bounds r 0) where
-  total-is : (k : ℕ) → k < length ts → Same64 (totalAt totals k) (allPairs net es xs bounds (getD ts k 0) r (q - r))
-  total-is k h =
-      let one = first .at k h (omega (arith, room)) in
-      let two = doubled .at k (omega (arith, room, first .same-length)) in
-      let three = second .at k h (omega (arith, room, first .same-length, doubled .same-length)) in
-      let both = both-are-all net es xs bounds (getD ts k 0) r (q - r) in
-      record {
-        up = three .up + two .up + 2 * one .up;
-        down = three .down + two .down + 2 * one .down;
-        alike = omega (arith, one .alike, two .alike, three .alike, zero-at k h, both);
-      }
+module _ {net : Network} {es xs bounds ts : List ℕ} {r q turn : ℕ} {totals : List ℕ} (so-far : TurnsTo net es xs bounds ts r q turn totals) where
+  pub one-turn : {twice new : List ℕ} → length ts ≤ maxThresholds → turn < 2 → Doubled totals twice → Added (length ts) (λ k. eachPairs net es xs bounds (eqb turn 1) (getD ts k 0) r (q - r)) twice new → TurnsTo net es xs bounds ts r q (turn + 1) new
+  unfolding pairsAfter
+  one-turn {twice} {new} few h doubled added = record { most = omega arith; long = added .same-length ∙ doubled .same-length ∙ so-far .long; at = go }
+    where
+      go : (k : ℕ) → k < length ts → Same64 (totalAt new k) (pairsAfter net es xs bounds (getD ts k 0) r (q - r) (turn + 1))
+      go k l =
+          let one = so-far .at k l in
+          let two = doubled .at k (omega (arith, so-far .long)) in
+          let three = added .at k l (omega (arith, so-far .long, doubled .same-length)) in
+          let on : turn + 1 ≡ suc turn = omega arith in
+          rw on record {
+            up = three .up + two .up + 2 * one .up;
+            down = three .down + two .down + 2 * one .down;
+            alike = omega (arith, one .alike, two .alike, three .alike);
+          }
 
-  total-small : (k : ℕ) → k < length ts → allPairs net es xs bounds (getD ts k 0) r (q - r) < wrap
-  unfolding otherPairs
-  total-small k h = let fit = fits .at k h in omega (arith, fit .small, fit .few)
+  module _ (fits : RowFits net es xs bounds ts r q) (over : 2 ≤ turn) {events : ℕ} (events-are : events ≡ getD bounds q 0 - getD bounds r 0) where
+    total-is : (k : ℕ) → k < length ts → Same64 (totalAt totals k) (allPairs net es xs bounds (getD ts k 0) r (q - r))
+    unfolding pairsAfter
+    total-is k h =
+        let done : turn ≡ 2 = omega (arith, so-far .most) in
+        same-then (so-far .at k h) (same-of (rw done (omega (arith, both-are-all net es xs bounds (getD ts k 0) r (q - r)))))
 
-  uncut : (k : ℕ) → k < length ts → min (allPairs net es xs bounds (getD ts k 0) r (q - r) - events) maxCount ≡ otherPairs net es xs bounds (getD ts k 0) r q
-  unfolding otherPairs
-  uncut k h = let fit = fits .at k h .small in rw events-are (omega (arith, fit))
+    total-small : (k : ℕ) → k < length ts → allPairs net es xs bounds (getD ts k 0) r (q - r) < wrap
+    unfolding otherPairs
+    total-small k h = let fit = fits .at k h in omega (arith, fit .small, fit .few)
 
-  pub row-is : {n : ℕ} {row : List ℕ} → n ≡ length ts → RowWritten totals events n row → row ≡ otherRow net es xs bounds ts r q
-  unfolding otherRow
-  row-is {n} {row} wide written =
-      let others : ℕ → ℕ = λ t. otherPairs net es xs bounds t r q in
-      let at : ℕ → ℕ = λ k. getD (map others ts) k 0 in
-      all-entries at row 0 n (written .long) (λ k h. written .at k h _ (total-small k (omega (arith, wide))) (total-is k (omega (arith, wide))) ∙ uncut k (omega (arith, wide)) ∙ sym (map-at others ts k (omega (arith, wide))) ∙ ap at (omega arith))
-      ∙ sym (all-entries at (map others ts) 0 n (length-map ts others ∙ sym wide) (λ k h. ap at (omega arith)))
+    uncut : (k : ℕ) → k < length ts → min (allPairs net es xs bounds (getD ts k 0) r (q - r) - events) maxCount ≡ otherPairs net es xs bounds (getD ts k 0) r q
+    unfolding otherPairs
+    uncut k h = let fit = fits .at k h .small in rw events-are (omega (arith, fit))
+
+    pub row-is : {n : ℕ} {row : List ℕ} → n ≡ length ts → RowWritten totals events n row → row ≡ otherRow net es xs bounds ts r q
+    unfolding otherRow
+    row-is {n} {row} wide written =
+        let others : ℕ → ℕ = λ t. otherPairs net es xs bounds t r q in
+        let at : ℕ → ℕ = λ k. getD (map others ts) k 0 in
+        all-entries at row 0 n (written .long) (λ k h. written .at k h _ (total-small k (omega (arith, wide))) (total-is k (omega (arith, wide))) ∙ uncut k (omega (arith, wide)) ∙ sym (map-at others ts k (omega (arith, wide))) ∙ ap at (omega arith))
+        ∙ sym (all-entries at (map others ts) 0 n (length-map ts others ∙ sym wide) (λ k h. ap at (omega arith)))

@@ -10,8 +10,8 @@ use Rattle.counting.proofs.choice.cheapest.Tie as tie
 pairs-of-requires : tie.Need-pairs-of-requires
 pairs-of-requires c κs = search needs
 
-parted-often-requires : tie.Need-parted-often-requires
-parted-often-requires c κs = search needs
+are-likely-parted-requires : tie.Need-are-likely-parted-requires
+are-likely-parted-requires c κs = search needs
 
 returns : tie.Need-returns
 returns c = λ up ladder. by-range-query
@@ -77,4 +77,4 @@ returns-9 : tie.Need-returns-9
 returns-9 c = λ up ladder. c .by-thresholds .ensures _
 
 pub cheapest-spec : {M : Type 1} → statement M
-cheapest-spec = tie.close (tie.spec pairs-of-requires parted-often-requires returns greatest-distance-requires value-at-requires cast-if2 returns-2 shortest-route-requires only-last-admits-requires sub-t16 returns-3 returns-4 first-admitting-requires returns-5 value-at-requires-2 cast-if6 returns-6 add-is-next is-next-requires returns-7 returns-8 by-thresholds-requires returns-9)
+cheapest-spec = tie.close (tie.spec pairs-of-requires are-likely-parted-requires returns greatest-distance-requires value-at-requires cast-if2 returns-2 shortest-route-requires only-last-admits-requires sub-t16 returns-3 returns-4 first-admitting-requires returns-5 value-at-requires-2 cast-if6 returns-6 add-is-next is-next-requires returns-7 returns-8 by-thresholds-requires returns-9)
