@@ -34,16 +34,16 @@ const FEWEST_PAIRS: u64 = 4;
 // Up to so many are, where some threshold may part them.
 const FEW_PAIRS: u64 = 25;
 
-// Up to so many events of the second run are compared with the one threshold that parts the pairs.
-const FEW_TO_COMPARE: usize = 10;
-
-// Up to so many are with nothing else asked, where twice the length of both edges is at least three times the widest gap between two
-// thresholds or before the first.
+// Up to so many are with nothing else asked, where LENGTHS times the length of both edges is at least WIDEST_GAPS times the widest gap
+// between two thresholds or before the first.
 const PARTED_PAIRS: u64 = 120;
+
+const LENGTHS: u64 = 2;
 
 const WIDEST_GAPS: u64 = 3;
 
-const LENGTHS: u64 = 2;
+// Up to so many events of the second run are compared with the one threshold that parts the pairs.
+const FEW_TO_COMPARE: usize = 10;
 
 // More pairs of two edges are looked at one by one where the second run has at most so many events for each threshold that may part
 // them.

@@ -1,9 +1,9 @@
 // The counts of a set from its totals.
 ghost use mathlib.Core.Path.{_≡_};
-ghost use Prim.Native.Nat.{_-_, _*_, _≤_, _<_, min};
+ghost use Prim.Native.Nat.{_-_, _≤_, _<_, min};
 ghost use lib.ListN.{length, getD};
 ghost use Rattle.model.specs.Network.{network};
-ghost use Rattle.prepare.specs.RunPairs.{otherRow, SumFits};
+ghost use Rattle.prepare.specs.RunPairs.{otherRow};
 ghost use Rattle.counting.specs.Runs.{AllRuns};
 ghost use Rattle.counting.specs.Rows.{maxCount, Doubled, RowWritten, RowFits};
 use crate::method::Method;

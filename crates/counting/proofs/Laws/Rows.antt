@@ -13,7 +13,7 @@ use Rattle.model.proofs.Laws.Zeros.{cleared}
 use Rattle.model.specs.Counting.{sumBelow}
 use Rattle.model.specs.Limits.{maxThresholds}
 use Rattle.model.specs.Network.{Network}
-use Rattle.edge_pair.proofs.Laws.Totals.{same-of, same-then, same-both, same-rest, same-small, same-turn}
+use Rattle.edge_pair.proofs.Laws.Totals.{same-of, same-then, same-both, same-rest, same-small}
 use Rattle.edge_pair.specs.Totals.{wrap, Same64, totalAt, Added}
 use Rattle.prepare.specs.RunPairs.{allPairs, otherPairs, otherRow}
 use Rattle.counting.proofs.Laws.Each.{both-are-all}

@@ -1,6 +1,6 @@
 -- Cells of 2 ^ shift metres, the last one without end.
 use mathlib.Core.Path.{_≡_, subst}
-use Prim.Native.Nat.{ℕ, _+_, _*_, _/_, _^_, _≤_, _<_, min}
+use Prim.Native.Nat.{ℕ, _+_, _*_, _/_, _^_, _≤_, _<_}
 use native.Mathlib.Nat.{div-mul-le-self, lt-div-mul-add, mul-le-mul-right, one-le-pow}
 use native.Mathlib.Omega.{arith}
 use Rattle.range_query.specs.Ladder.{lastCell, cellOf}

@@ -1,6 +1,4 @@
 -- A shift to the right divides by a power of two.
-use mathlib.Core.Path.{_∙_}
-use native.Mathlib.Omega.{arith}
 use borrow.Author.Needs.{needs}
 use Rattle.range_query.specs.Ladder.{cellOf}
 use Rattle.range_query.proofs.lookup.cell_of.Statement.{statement}

@@ -1,6 +1,5 @@
 -- Each is read where it stands.
 use mathlib.Core.Path.{refl}
-use native.Mathlib.Omega.{arith}
 use Rattle.range_query.specs.Ladder.{cellsOf}
 use borrow.Author.Needs.{needs}
 use Rattle.range_query.proofs.lookup.read_cells.Statement.{statement}
