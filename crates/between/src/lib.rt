@@ -1,4 +1,6 @@
 // Distances of two nodes or two locations, read from rows of distances.
+#![tactic(auto)]
+
 mod answers;
 mod entries;
 mod locations;

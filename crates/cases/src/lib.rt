@@ -5,6 +5,8 @@
 // A text stands in a line of its own: `\r` and `\n` stand for carriage return and line feed, `\60001xc` for 60,001 times c.
 // Lists stand one behind the other, each behind its length, up to an empty line: 13x99 stands for 13 times 99. Words without digits may
 // stand between the numbers, and say what they are.
+#![tactic(auto)]
+
 mod input;
 mod lists;
 

@@ -1,4 +1,6 @@
 // Count augmentation: pair counts from stored numbers, looked up by binary search.
+#![tactic(auto)]
+
 mod events;
 mod look_up;
 mod pairs;

@@ -1,4 +1,6 @@
 // The pair counts of every set at every threshold, by a method that is asked for.
+#![tactic(auto)]
+
 mod choice;
 mod kernels;
 mod method;

@@ -1,4 +1,6 @@
 // Least distances: the one part that searches for them. Everything above cites its promises.
+#![tactic(auto)]
+
 mod arcs;
 mod find;
 mod front;

@@ -1,4 +1,6 @@
 // What the three kernels share: two edges by value, and the totals that they add to.
+#![tactic(auto)]
+
 mod edges;
 mod totals;
 mod ways;

@@ -1,4 +1,6 @@
 // The reader of report texts.
+#![tactic(auto)]
+
 mod events;
 
 ghost use Rattle.model.specs.Network.{network};

@@ -1,5 +1,7 @@
 // The library for programs in C and Rust. A slice is a pointer and a length, a `&mut` number is a pointer.
 // A refusal is told through number and place, 0 and 0 where there is none.
+#![tactic(auto)]
+
 mod counts;
 mod inner;
 mod told;

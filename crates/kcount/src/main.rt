@@ -1,4 +1,6 @@
 // Prints the report over network.gr, reports.csv and thresholds.csv of the current folder.
+#![tactic(auto)]
+
 mod files;
 
 ghost use Rattle.std.specs.Prelude.{◌≤◌, length};

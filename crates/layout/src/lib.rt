@@ -1,4 +1,6 @@
 // Laying out a set: its events sorted by edge and then by offset; and the events on one edge.
+#![tactic(auto)]
+
 mod insertion;
 mod keys;
 mod laying_out;

@@ -1,4 +1,6 @@
 // The types that carry document 01's limits, and the refusal. What a reader must believe stands in specs/.
+#![tactic(auto)]
+
 mod check;
 mod code;
 mod event_set;

@@ -1,4 +1,6 @@
 // Neighbour sharing: pair counts by cursors that are moved and never searched anew.
+#![tactic(auto)]
+
 mod joining;
 mod moving;
 mod pairs;

@@ -1,4 +1,6 @@
 // The reader of network texts.
+#![tactic(auto)]
+
 mod answers;
 mod arcs;
 mod network;

@@ -1,4 +1,6 @@
 // Demand 3 as one promise: the three methods and the cursors together.
+#![tactic(auto)]
+
 mod claim;
 mod verdict;
 

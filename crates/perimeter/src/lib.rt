@@ -1,4 +1,6 @@
 // Perimeter counts: how many locations lie at exactly a radius from a centre.
+#![tactic(auto)]
+
 mod around;
 mod codes;
 mod counts;

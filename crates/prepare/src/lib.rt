@@ -1,4 +1,6 @@
 // What every counting method starts from: checked lists, each set laid out and cut into runs, and the leg-end distances.
+#![tactic(auto)]
+
 mod checks;
 mod ends;
 mod laying_out;

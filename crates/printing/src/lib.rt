@@ -1,4 +1,6 @@
 // The printed bytes: the table, and the line of a refusal.
+#![tactic(auto)]
+
 mod answers;
 mod refusal;
 mod table;

@@ -1,5 +1,7 @@
 // The kernel of the range query: each pair is counted at the first threshold that admits its own distance, or its distance is compared
 // with the one threshold that is asked for.
+#![tactic(auto)]
+
 mod lookup;
 mod own;
 mod pairs;

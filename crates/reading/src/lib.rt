@@ -1,4 +1,6 @@
 // What the readers of the three texts share: a text's length and header, what becomes of a line, and the answer lists.
+#![tactic(auto)]
+
 mod answer_list;
 mod answers;
 mod header;

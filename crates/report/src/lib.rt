@@ -1,4 +1,6 @@
 // The printed report from three texts.
+#![tactic(auto)]
+
 mod columns;
 mod network;
 mod reports;

@@ -4,6 +4,8 @@
 // stand in stdin, as the crate `cases` reads them, texts first, then lists. The first list of a case holds lone numbers, and the last ones
 // are answer lists: what stands in them shows what was not written. A new function is an arm of `asked` or `on_lists` here, of `on_network`
 // in networks or of `on_text` in readers, and a section of stdin.
+#![tactic(auto)]
+
 mod answers;
 mod checks;
 mod counts;

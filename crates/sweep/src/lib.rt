@@ -1,4 +1,6 @@
 // Cursors: one that is moved on and never searched anew, and the sweep of the six of two edges.
+#![tactic(auto)]
+
 mod asked;
 mod cursor;
 mod sweeping;

@@ -1,4 +1,6 @@
 // The table of observed, least and greatest counts.
+#![tactic(auto)]
+
 mod answers;
 mod checks;
 mod columns;

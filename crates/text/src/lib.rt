@@ -1,4 +1,6 @@
 // Lines, numbers and fields of the texts.
+#![tactic(auto)]
+
 mod fields;
 mod lines;
 mod network_line;

@@ -1,4 +1,6 @@
 // The reader of threshold texts.
+#![tactic(auto)]
+
 mod thresholds;
 
 ghost use Rattle.threshold_reader.specs.Answers.{ThresholdsRead};

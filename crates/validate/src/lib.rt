@@ -1,5 +1,7 @@
 // The checks of lent lists against document 01, in its order: the lowest number decides, then the lowest place.
 // Each module has the checks of some of its numbers, a function to a number.
+#![tactic(auto)]
+
 mod events;
 mod network;
 mod number;

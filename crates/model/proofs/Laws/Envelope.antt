@@ -28,6 +28,7 @@ widened n nothing = through_ends (Memᴰ.head refl) (Memᴰ.head refl) alone
   where
     alone : (k : ℕ) → Memᴰ k (n ∷ []) → (n ≤ k) × (k ≤ n)
     alone k (Memᴰ.head e) = (omega arith, omega arith)
+    alone k (Memᴰ.tail m) = elim m [ ]
 widened n (through_ends {ns} {lower} {upper} low high inside) =
     through_ends (lesser-in n lower ns low) (greater-in n upper ns high) within
   where
