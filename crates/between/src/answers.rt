@@ -1,7 +1,7 @@
 // What the distance functions answer.
 
 // The metres of a least distance, no walk, or a refusal's number and place.
-#[derive(Drop)]
+#[derive(Clone, Copy)]
 pub enum Length {
     Metres(u32),
     NoWalk,
@@ -9,7 +9,7 @@ pub enum Length {
 }
 
 // The metres of a least distance within a bound, beyond it (no walk included), or a refusal's number and place.
-#[derive(Drop)]
+#[derive(Clone, Copy)]
 pub enum BoundedLength {
     Metres(u32),
     Beyond,

@@ -12,7 +12,7 @@ use range_query::{WIDEST_AT, first_admitting};
 
 // The kernel of a method, or none: all pairs of the two runs are within reach from one threshold on and none before, or one threshold
 // parts them, with none within reach before it and all behind it.
-#[derive(Drop)]
+#[derive(Clone, Copy)]
 pub enum Kernel {
     RangeQuery,
     CountAugmentation,

@@ -1,5 +1,5 @@
 // The three methods of document 01, and `Cheapest`, which takes for each two runs the kernel that should be fastest for them.
-#[derive(Drop)]
+#[derive(Clone, Copy)]
 pub enum Method {
     RangeQuery,
     CountAugmentation,

@@ -13,7 +13,7 @@ use crate::two_edges::{Rows, are_apart, rows_of, table_edges};
 use edge_pair::EdgePair;
 
 // A run: the index of its edge, where its events begin and where they end.
-#[derive(Drop)]
+#[derive(Clone, Copy)]
 pub struct Run {
     pub edge: usize,
     pub from: usize,

@@ -9,7 +9,7 @@ ghost use Rattle.counting.specs.TwoEdges.{rows_of, table_edges_of, EdgeIn};
 use edge_pair::EdgePair;
 
 // An edge by its index: its length, and where the table has the rows of its two ends.
-#[derive(Drop)]
+#[derive(Clone, Copy)]
 pub struct Rows {
     pub edge: usize,
     pub length: u32,

@@ -11,7 +11,7 @@ use crate::keys::{entry_of, key_of, least_of_fours, place_of};
 use model::{Network, clear, lesser};
 
 // Why the search stopped: every node reached is settled, or the nearest one waiting is beyond the bound.
-#[derive(Drop)]
+#[derive(Clone, Copy)]
 enum Stop {
     Exhausted,
     Beyond,

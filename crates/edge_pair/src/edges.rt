@@ -4,7 +4,7 @@ ghost use Rattle.edge_pair.specs.Edges.{side_of, code_between_of};
 
 // Two edges: their lengths, whether they are one, and the codes of the distances from the first's ends to the second's (first to first,
 // first to second, and so on): 0 where there is no route within the bound, else one more than the metres.
-#[derive(Drop)]
+#[derive(Clone, Copy)]
 pub struct EdgePair {
     pub length1: u32,
     pub length2: u32,

@@ -5,12 +5,12 @@ ghost use Rattle.model.specs.Made.{event_set_of};
 
 use crate::check::Check;
 
-#[derive(Drop)]
+#[derive(Clone, Copy)]
 pub struct EventSet {
     pub len: usize,
 }
 
-#[derive(Drop)]
+#[derive(Clone, Copy)]
 pub enum MadeEventSet {
     Made(EventSet),
     Refused(u32, usize),

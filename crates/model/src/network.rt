@@ -6,13 +6,13 @@ ghost use Rattle.model.specs.Made.{network_of};
 
 use crate::check::{Check, is_between};
 
-#[derive(Drop)]
+#[derive(Clone, Copy)]
 pub struct Network {
     pub nodes: u32,
     pub edges: usize,
 }
 
-#[derive(Drop)]
+#[derive(Clone, Copy)]
 pub enum MadeNetwork {
     Made(Network),
     Refused(u32, usize),

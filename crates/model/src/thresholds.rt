@@ -4,12 +4,12 @@ ghost use Rattle.model.specs.Made.{thresholds_of};
 
 use crate::check::Check;
 
-#[derive(Drop)]
+#[derive(Clone, Copy)]
 pub struct Thresholds {
     pub len: usize,
 }
 
-#[derive(Drop)]
+#[derive(Clone, Copy)]
 pub enum MadeThresholds {
     Made(Thresholds),
     Refused(u32, usize),

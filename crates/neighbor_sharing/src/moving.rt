@@ -8,7 +8,7 @@ use sweep::{Cursor, advance, below, route, up_to};
 
 // The positions (01) of the four routes' cursors, from the first edge's ends to the second's, and of the window's two. In the
 // place of a route beyond the bound is a cursor that reaches nothing, and on two edges there is no window: both count 0 at every event.
-#[derive(Drop)]
+#[derive(Clone, Copy)]
 pub struct Stands {
     pub ff: usize,
     pub fs: usize,

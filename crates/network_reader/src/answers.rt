@@ -1,5 +1,5 @@
 // What the reader of networks answers: what was read, or the refusal's number and place.
-#[derive(Drop)]
+#[derive(Clone, Copy)]
 pub enum ReadNetwork {
     // The number of nodes and the number of edges.
     Read(u32, usize),

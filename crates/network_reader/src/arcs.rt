@@ -11,7 +11,7 @@ use reading::LineRead;
 use text::NetworkLine;
 
 // What was seen so far.
-#[derive(Drop)]
+#[derive(Clone, Copy)]
 pub enum Seen {
     // No `p` line.
     NoProblem,
@@ -20,7 +20,7 @@ pub enum Seen {
 }
 
 // What becomes of one line.
-#[derive(Drop)]
+#[derive(Clone, Copy)]
 pub enum ArcStep {
     Taken(Seen),
     Refused(u32),

@@ -8,7 +8,7 @@ use crate::codes::{by_ends, is_at, one};
 use crate::edges::{Sight, count_met};
 
 // The centre: the index of its edge, the metres from it to the edge's two ends, and the radius.
-#[derive(Drop)]
+#[derive(Clone, Copy)]
 pub struct Centre {
     pub edge: usize,
     pub offset: u64,

@@ -9,7 +9,7 @@ use crate::codes::{by_ends, is_at, left, one, stretch};
 use model::{less, lesser_code};
 
 // An edge as seen from the centre: the codes of its ends' distances, its length, and whether the centre lies on it.
-#[derive(Drop)]
+#[derive(Clone, Copy)]
 pub struct Sight {
     pub end1: u64,
     pub end2: u64,

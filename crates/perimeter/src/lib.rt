@@ -13,7 +13,7 @@ ghost use Rattle.perimeter.specs.Answers.{perimeter_answer};
 use model::Check;
 
 // The perimeter count, or a refusal's number and place.
-#[derive(Drop)]
+#[derive(Clone, Copy)]
 pub enum Counted {
     Count(u32),
     Refused(u32, usize),

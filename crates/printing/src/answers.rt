@@ -1,5 +1,5 @@
 // What the printing functions answer.
-#[derive(Drop)]
+#[derive(Clone, Copy)]
 pub enum Printed {
     // The number of bytes.
     Bytes(usize),

@@ -39,7 +39,7 @@ pub const LAST_CELL: usize = CELLS - 1;
 pub const SHIFT_END: u32 = 32;
 
 // What is read of a ladder once: whether there is a cell for each metre, and the shift of the cells.
-#[derive(Drop)]
+#[derive(Clone, Copy)]
 pub struct Cells {
     pub exact: bool,
     pub shift: u32,

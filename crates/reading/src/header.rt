@@ -1,7 +1,7 @@
 // The header of a CSV text.
 ghost use Rattle.reading.specs.Header.{HeaderRead};
 
-#[derive(Drop)]
+#[derive(Clone, Copy)]
 pub enum Header {
     // The byte at which the rows begin.
     RowsFrom(usize),

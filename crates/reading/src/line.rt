@@ -1,5 +1,5 @@
 // What becomes of one line: it is taken in, or it is refused with a number.
-#[derive(Drop)]
+#[derive(Clone, Copy)]
 pub enum LineRead {
     Taken,
     Refused(u32),

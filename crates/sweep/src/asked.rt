@@ -73,7 +73,7 @@ pub(crate) fn check_cursors(
 }
 
 // The codes of the distances from one node to the two ends of an edge.
-#[derive(Drop)]
+#[derive(Clone, Copy)]
 pub struct EndCodes {
     pub first: u32,
     pub second: u32,

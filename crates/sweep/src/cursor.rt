@@ -9,7 +9,7 @@ use model::less;
 
 // A cursor of any kind. It counts the events whose gap to the first or the second end of the second edge, with minus, is at most plus:
 // the offset on the first edge is added to the gap if the cursor is falling, else to plus.
-#[derive(Drop)]
+#[derive(Clone, Copy)]
 pub struct Cursor {
     pub falling: bool,
     pub plus: u32,

@@ -1,5 +1,5 @@
 // What the table answers.
-#[derive(Drop)]
+#[derive(Clone, Copy)]
 pub enum Table {
     // There are no comparison sets: the observed counts alone.
     Observed,

@@ -6,7 +6,7 @@ ghost use Rattle.table.specs.Table.{leasts, greatests};
 
 use model::{greater, lesser};
 
-#[derive(Drop)]
+#[derive(Clone, Copy)]
 pub struct Span {
     pub lower: u32,
     pub upper: u32,

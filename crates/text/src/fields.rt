@@ -6,7 +6,7 @@ use crate::number::{Number, number_of};
 use crate::search::first_at;
 
 // Fields that are one, two or three numbers and nothing else.
-#[derive(Drop)]
+#[derive(Clone, Copy)]
 pub enum Numbers {
     Nothing,
     One(u32),

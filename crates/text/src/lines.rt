@@ -5,7 +5,7 @@ ghost use Rattle.text.specs.NextLine.{feed_line_of, csv_line_of};
 use crate::search::{first_at, pair_at};
 
 // Where the first line ends, and where the next one begins.
-#[derive(Drop)]
+#[derive(Clone, Copy)]
 pub struct Line {
     pub end: usize,
     pub next: usize,

@@ -4,7 +4,7 @@ ghost use Rattle.text.specs.NetworkText.{network_line_text, problem_in, arc_in};
 
 use crate::fields::{Numbers, begins_with, numbers_of, same_bytes};
 
-#[derive(Drop)]
+#[derive(Clone, Copy)]
 pub enum NetworkLine {
     Remark,
     // Nodes and arcs.

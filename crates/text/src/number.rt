@@ -3,7 +3,7 @@ ghost use Rattle.std.specs.Prelude.{cond, ◌&&◌, ◌||◌, not, ◌≡◌, eq
 ghost use Rattle.model.specs.Refusal.{is_between_of};
 ghost use Rattle.text.specs.Numbers.{all_digits_of, decimal, max_digits, max_number, number_of};
 
-#[derive(Drop)]
+#[derive(Clone, Copy)]
 pub enum Number {
     Value(u32),
     NoNumber,
