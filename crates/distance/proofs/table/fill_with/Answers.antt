@@ -1,0 +1,19 @@
+-- `fill_with`: the arcs are linked, so a search from any node can start.
+use native.Mathlib.Omega.{arith}
+use Rattle.model.proofs.Laws.Checks.{network-accepted}
+use Rattle.distance.proofs.Rooms.{can-link}
+use Rattle.distance.proofs.table.fill_with.Goals as goal
+
+pub link-requires : goal.link-requires
+link-requires c = can-link (network-accepted _ c.requires.fillable.accepted) c.requires.rooms.0
+
+pub fill_rows-requires : goal.fill_rows-requires
+fill_rows-requires c = let start = c in
+    let n = network-accepted _ start.requires.0.accepted in (
+      start.requires.0,
+      record {
+        linked = c.link.ensures;
+        dist_room = omega (arith, n.nodes_to, start.requires.1.1);
+        front_room = omega (arith, n.nodes_to, start.requires.1.0.front_room);
+      },
+    )

@@ -1,0 +1,56 @@
+-- The verdict is the check's; on acceptance the events sorted fill both lists.
+use mathlib.Core.List.{List}
+use mathlib.Core.Path.{◌≡◌, sym, ◌∙◌}
+use Prim.Native.Nat.{ℕ}
+use lib.ListN.{length}
+use lib.Seq.{length-take-le}
+use Rattle.model.specs.declared.check.Check.TheVariants.{Accepted}
+use Rattle.model.specs.Checks.{layout_check}
+use Rattle.model.proofs.Laws.Answer.{written-refused, written_all}
+use Rattle.model.proofs.Laws.Checks.{LayoutAccepted, layout-accepted}
+use Rattle.layout.proofs.laying_out.lay_out.Goals as goal
+
+pub returns-in-Refused : goal.returns-in-Refused
+returns-in-Refused c = let e = sym c.check_layout-verdict.ensures ∙ c.in-Refused.is in
+    record {
+      verdict = c.check_layout-verdict.ensures;
+      edges_after = written-refused _ _ e;
+      offsets_after = written-refused _ _ e;
+    }
+
+-- past the check the lists are as long as each other, and short enough
+module _ (c : tie.After-enum-told2) where
+  abbrev edges : List ℕ
+  edges = c.before.before.before.before.before.before.before.args.edges.now
+
+  abbrev offsets : List ℕ
+  offsets = c.before.before.before.before.before.before.before.args.offsets.now
+
+  accepted : layout_check edges offsets ≡ Accepted
+  accepted = sym c.before.before.check-layout.ensures ∙ c.enum-told2.given.1
+
+  fitting : LayoutAccepted edges offsets
+  fitting = layout-accepted edges offsets accepted
+
+pub slice_bounds-keys-end : goal.slice_bounds-keys-end
+slice_bounds-keys-end c = (fitting c).few
+
+pub slice_bounds-sort_events-end : goal.slice_bounds-sort_events-end
+slice_bounds-sort_events-end c = sym (length-take-le (length (edges c)) _ (fitting c).few)
+
+pub sort_events-requires : goal.sort_events-requires
+sort_events-requires c = let checked = c in
+    record {
+      same_offsets = sym (fitting checked).same_length;
+      same_keys = length-take-le (length (edges checked)) _ (fitting checked).few;
+      few = (fitting checked).few;
+    }
+
+pub returns : goal.returns
+returns c = let after-sort = c in
+    let checked = after-sort.before.before.before.before in
+    record {
+      verdict = checked.before.before.check-layout.ensures;
+      edges_after = written_all _ _ _ (accepted checked) after-sort.sort-events.ensures.sorted_edges after-sort.sort-events.auto.0;
+      offsets_after = written_all _ _ _ (accepted checked) after-sort.sort-events.ensures.sorted_offsets after-sort.sort-events.auto.1.0;
+    }

@@ -1,0 +1,17 @@
+-- No more than the half is passed.
+use Prim.Native.Nat.{◌+◌}
+use native.Mathlib.Omega.{arith}
+use Rattle.range_query.proofs.Laws.Lookup.{narrowed-to}
+use Rattle.range_query.specs.Ladder.{narrowed}
+use mathlib.Core.Path.{◌≡◌, ap}
+use Rattle.range_query.proofs.lookup.narrow.Goals as goal
+
+pub overflow_add-result : goal.overflow_add-result
+unfolding narrowed
+overflow_add-result c = let is : c.args.pos + c.passed.result ≡ narrowed c.args.ladder.now c.args.d c.args.half c.args.pos = ap (λ n. c.args.pos + n) c.passed.ensures in
+    omega (arith, is, narrowed-to c.args.ladder.now c.args.d c.args.half c.args.pos, c.requires)
+
+pub returns : goal.returns
+unfolding narrowed
+returns c = let is : c.args.pos + c.passed.result ≡ narrowed c.args.ladder.now c.args.d c.args.half c.args.pos = ap (λ n. c.args.pos + n) c.passed.ensures in
+    (is, omega (arith, is, narrowed-to c.args.ladder.now c.args.d c.args.half c.args.pos))
