@@ -48,10 +48,11 @@ shape_of-totals c = c.loop-i.invariant.1
 pub returns : goal.returns
 unfolding looked_up_pairs
 returns c = let looked : Ordered c.args.thresholds.now → Added (length c.args.thresholds.now) (λ k. looked_up_pairs c.args.edges (get_or c.args.thresholds.now k 0) c.args.xs.now c.args.ys.now c.args.near_first.now c.args.near_second.now) c.args.totals.now c.loop-i.totals = λ rising. let end : c.loop-i.i ≡ length c.args.xs.now = omega (arith, c.loop-i.invariant.0, c.loop-i-test.false) in
-    rw (← end) (c.loop-i.invariant.2 rising) in (
-      λ rising few. looked rising,
-      λ rising laid first-long second-long stored.
+    rw (← end) (c.loop-i.invariant.2 rising) in
+    record {
+      added = λ rising few. looked rising;
+      added_2 = λ rising laid first-long second-long stored.
           added-as
           (λ k h. pairs-reached c.args.edges laid.second_laid first-long second-long stored (get_or c.args.thresholds.now k 0) (c.type_inv.thresholds k).fits c.args.xs.now)
-          (looked rising),
-    )
+          (looked rising);
+    }

@@ -11,14 +11,12 @@ pub returns-then-k-eq0 : goal.returns-then-k-eq0
 returns-then-k-eq0 c = λ rising told. sym (first-equal _ rising c.args.k c.requires.0 (λ more. absurd (omega arith)))
 
 pub returns-then-offsets-k : goal.returns-then-offsets-k
-returns-then-offsets-k c = let start = c in
-    let xs = start.args.offsets.now in
-    let k = start.args.k in
+returns-then-offsets-k c = let xs = c.args.offsets.now in
+    let k = c.args.k in
     λ rising told. told (omega arith) ∙ ap (at_least xs) (ap (λ (j : ℕ). get_or xs j 0) {x = pred k} {y = k - 1} (omega arith) ∙ c.if-offsets-k.true)
 
 pub returns : goal.returns
-returns c = let start = c in
-    let xs = start.args.offsets.now in
-    let k = start.args.k in
+returns c = let xs = c.args.offsets.now in
+    let k = c.args.k in
     let different : get_or xs (pred k) 0 ≡ get_or xs k 0 → ⊥ = λ e. c.if-offsets-k.false (ap (λ (j : ℕ). get_or xs j 0) {x = k - 1} {y = pred k} (omega arith) ∙ e) in
-    λ rising told. sym (first-equal xs rising k start.requires.0 (λ more. omega (arith, rising.in_order (pred k) k (omega arith) start.requires.0, different)))
+    λ rising told. sym (first-equal xs rising k c.requires.0 (λ more. omega (arith, rising.in_order (pred k) k (omega arith) c.requires.0, different)))

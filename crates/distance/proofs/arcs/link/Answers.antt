@@ -10,28 +10,27 @@ use Rattle.distance.proofs.Chains.{link-none, link-more}
 use Rattle.distance.proofs.arcs.link.Goals as goal
 
 pub loop-a-init : goal.loop-a-init
-loop-a-init c = let start = c in (
+loop-a-init c = (
   search rules,
   refl,
   refl,
-  link-none _ _ _ _ _ (omega (arith, c.clear.auto.list, start.requires.1.0.0)) (cleared (length start.args.last.now) c.clear.ensures),
+  link-none _ _ _ _ _ (omega (arith, c.clear.auto.list, c.requires.nodes_in_bounds.0)) (cleared (length c.args.last.now) c.clear.ensures),
 )
 
 pub bounds-last-v : goal.bounds-last-v
-bounds-last-v c = omega (arith, c.tail_of-v.ensures, c.requires.nodes_in_bounds.1 c.loop-a.a (omega arith))
+bounds-last-v c = omega (arith, c.tail_of-v.ensures, c.requires.by_index c.loop-a.a (omega arith))
 
 pub bounds-last-v-in-loop-a : goal.bounds-last-v-in-loop-a
-bounds-last-v-in-loop-a c = omega (arith, c.tail_of-v.ensures, c.requires.nodes_in_bounds.1 c.loop-a.a (omega arith))
+bounds-last-v-in-loop-a c = omega (arith, c.tail_of-v.ensures, c.requires.by_index c.loop-a.a (omega arith))
 
 pub loop-a-preserved : goal.loop-a-preserved
-loop-a-preserved c = let start = c in
-    let here = c.loop-a in (
-      search rules,
-      simp length-set here.invariant.1,
-      simp length-set here.invariant.2,
-      rw c.tail_of-v.ensures
-          (link-more _ _ _ _ _ here.a here.invariant.3 (omega arith) (start.requires.1.1 here.a (omega arith))),
-    )
+loop-a-preserved c = let here = c.loop-a in (
+  search rules,
+  simp length-set here.invariant.1,
+  simp length-set here.invariant.2,
+  rw c.tail_of-v.ensures
+      (link-more _ _ _ _ _ here.a here.invariant.3 (omega arith) (c.requires.by_index here.a (omega arith))),
+)
 
 pub returns : goal.returns
 returns c = let here = c.loop-a in

@@ -7,6 +7,5 @@ pub link-requires : goal.link-requires
 link-requires c = can-link (asked c.requires.askable) c.requires.rooms
 
 pub search-requires : goal.search-requires
-search-requires c = let start = c in
-    let n = asked start.requires.0 in
-    ready n start.requires.0.source_is start.requires.0.room (omega (arith, n.nodes_to, start.requires.1.front_room)) c.link.ensures
+search-requires c = let n = asked c.requires.askable in
+    ready n c.requires.askable.source_is c.requires.askable.room (omega (arith, n.nodes_to, c.requires.rooms.front_room)) c.link.ensures

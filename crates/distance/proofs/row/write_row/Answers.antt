@@ -8,9 +8,8 @@ use Rattle.distance.proofs.Entries.{searched-row}
 use Rattle.distance.proofs.row.write_row.Goals as goal
 
 pub returns : goal.returns
-returns c = let start = c in
-    let found = c.find in (
-      c.copy_row.ensures
-          ∙ ap (λ (l : List ℕ). l ++ drop start.args.nodes start.args.answers.now) (searched-row found.ensures (omega (arith, start.requires.0.room, found.auto))),
-      found.ensures,
-    )
+returns c = let found = c.find in record {
+  answers_after = c.copy_row.ensures
+      ∙ ap (λ (l : List ℕ). l ++ drop c.args.nodes c.args.answers.now) (searched-row found.ensures (omega (arith, c.requires.askable.room, found.auto)));
+  searched = found.ensures;
+}

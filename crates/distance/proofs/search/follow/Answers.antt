@@ -6,16 +6,16 @@ use Rattle.distance.proofs.Going.{begun, an-arc, reach, going_start, going_more,
 use Rattle.distance.proofs.search.follow.Goals as goal
 
 pub offset_bounds-last-v : goal.offset_bounds-last-v
-offset_bounds-last-v c = omega (arith, begun c.requires.ready c.requires.following.0)
+offset_bounds-last-v c = omega (arith, begun c.requires.ready c.requires.following)
 
 pub bounds-last-v : goal.bounds-last-v
-bounds-last-v c = omega (arith, begun c.requires.ready c.requires.following.0)
+bounds-last-v c = omega (arith, begun c.requires.ready c.requires.following)
 
 pub overflow_cast-h-2 : goal.overflow_cast-h-2
-overflow_cast-h-2 c = omega (arith, begun c.requires.ready c.requires.following.0)
+overflow_cast-h-2 c = omega (arith, begun c.requires.ready c.requires.following)
 
 pub loop-h-init : goal.loop-h-init
-loop-h-init c = (going_start c.requires.ready c.requires.following.0 c.requires.following.1.0 c.requires.following.1.1, refl, refl, refl, refl)
+loop-h-init c = (going_start c.requires.ready c.requires.following c.requires.keyed.0 c.requires.keyed.1, refl, refl, refl, refl)
 
 pub tail_of-w-requires : goal.tail_of-w-requires
 tail_of-w-requires c = ((reach c.loop-h.invariant.0 (c.loop-h.h - 1) (an-arc c.loop-h-test.true)).in-seconds, (reach c.loop-h.invariant.0 (c.loop-h.h - 1) (an-arc c.loop-h-test.true)).in-firsts)

@@ -75,14 +75,17 @@ pub follow-len-requires : goal.follow-len-requires
 follow-len-requires c = let found : Least c.picking.keys c.picking.len 0 c.picking.len c.loop-k.key = ends_at (c.loop-k.invariant.1 (omega (arith, c.if-len-eq0.false))) c.if-k-len.true in
     let t = c.picking.invariant.0 in
     let x = (turn-nearest c.picking.invariant.0 found c.place_of-best.ensures c.entry_of-least.ensures) in
-    let last : c.picking.len ≡ suc (c.picking.len - 1) = omega arith in record { ready = turn-ready t x last c.remove.ensures; following = (turn-pick t x last c.remove.ensures (omega arith), (turn-keyed t x last c.remove.ensures, x.is)); keyed =  }
+    let last : c.picking.len ≡ suc (c.picking.len - 1) = omega arith in (
+      turn-ready t x last c.remove.ensures,
+      (turn-pick t x last c.remove.ensures (omega arith), (turn-keyed t x last c.remove.ensures, x.is)),
+    )
 
 pub picking-smaller : goal.picking-smaller
 picking-smaller c = omega (arith, few c.picking.invariant.0.state)
 
 pub picking-preserved : goal.picking-preserved
 picking-preserved c = let i = c.picking.invariant in
-    let f = c.follow-len.auto.front.1.1.1.1.1.1.1 in
+    let f = c.follow-len.auto.1.1.1.1.1.1.1.1 in
     let r = c.remove.auto in (
       record { ready = ready-again _ _ i.0.ready f.0 (f.1.0 ∙ r.0); state = c.follow-len.ensures.state; keyed = c.follow-len.ensures.keyed_2 },
       f.0 ∙ i.1,

@@ -12,4 +12,4 @@ pub fill-requires : goal.fill-requires
 fill-requires c = table-accepted _ _ _ (sym c.check_table-verdict.ensures ∙ c.in_default.is)
 
 pub returns : goal.returns
-returns c = table-answered _ _ _ _ c.check_table-verdict.ensures c.in_default.is c.fill.ensures c.fill.auto.1.1.1.1.1.1.0
+returns c = table-answered _ _ _ _ c.check_table-verdict.ensures c.in_default.is c.fill.ensures c.fill.auto.rows

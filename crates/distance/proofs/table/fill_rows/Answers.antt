@@ -13,21 +13,16 @@ pub loop-k-init : goal.loop-k-init
 loop-k-init c = (search rules, fill_none _ _ _ _, refl, refl, λ y v h. absurd (omega arith))
 
 pub fill_row-most-requires : goal.fill_row-most-requires
-fill_row-most-requires c = let start = c in
-    let here = c.loop-k in (
-      ready (network-accepted _ start.requires.0.accepted) (record { from_one = omega arith; to_nodes = c.loop-k-test.true }) (omega (arith, start.requires.1.dist_room, here.invariant.2)) (omega (arith, start.requires.1.front_room, here.invariant.3)) start.requires.1.linked,
-      (fill_known _ _ _ _ start.requires.0 here.invariant.1 here.invariant.4 c.loop-k-test.true, here.invariant.1.at-is),
-    )
+fill_row-most-requires c = let here = c.loop-k in record { ready = ready (network-accepted _ c.requires.fillable.accepted) (record { from_one = omega arith; to_nodes = c.loop-k-test.true }) (omega (arith, c.requires.any_source.dist_room, here.invariant.2)) (omega (arith, c.requires.any_source.front_room, here.invariant.3)) c.requires.any_source.linked; rows_known = (fill_known _ _ _ _ c.requires.fillable here.invariant.1 here.invariant.4 c.loop-k-test.true, here.invariant.1.at-is) }
 
 pub overflow_add-at : goal.overflow_add-at
 overflow_add-at c = omega (arith, row-end (fill_known _ _ _ _ c.requires.fillable c.loop-k.invariant.1 c.loop-k.invariant.4 c.loop-k-test.true) c.loop-k.invariant.1.at-is)
 
 pub loop-k-preserved : goal.loop-k-preserved
-loop-k-preserved c = let start = c in
-    let here = c.loop-k in
+loop-k-preserved c = let here = c.loop-k in
     let test = c.loop-k-test.true in
     let filled = c.fill_row-most in
-    let inside = (row-end (fill_known _ _ _ _ start.requires.0 here.invariant.1 here.invariant.4 test) here.invariant.1.at-is).inside in (
+    let inside = (row-end (fill_known _ _ _ _ c.requires.fillable here.invariant.1 here.invariant.4 test) here.invariant.1.at-is).inside in (
       omega arith,
       rw filled.ensures (fill-next _ _ _ _ here.invariant.1 test inside),
       omega (arith, filled.auto, here.invariant.2),

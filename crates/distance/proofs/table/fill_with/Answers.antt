@@ -8,12 +8,11 @@ pub link-requires : goal.link-requires
 link-requires c = can-link (network-accepted _ c.requires.fillable.accepted) c.requires.rooms.0
 
 pub fill_rows-requires : goal.fill_rows-requires
-fill_rows-requires c = let start = c in
-    let n = network-accepted _ start.requires.0.accepted in (
-      start.requires.0,
-      record {
-        linked = c.link.ensures;
-        dist_room = omega (arith, n.nodes_to, start.requires.1.1);
-        front_room = omega (arith, n.nodes_to, start.requires.1.0.front_room);
-      },
-    )
+fill_rows-requires c = let n = network-accepted _ c.requires.fillable.accepted in record {
+  fillable = c.requires.fillable;
+  any_source = record {
+    linked = c.link.ensures;
+    dist_room = omega (arith, n.nodes_to, c.requires.rooms.1);
+    front_room = omega (arith, n.nodes_to, c.requires.rooms.0.front_room);
+  };
+}

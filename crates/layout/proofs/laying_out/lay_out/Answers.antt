@@ -18,32 +18,29 @@ returns-in-Refused c = let e = sym c.check_layout-verdict.ensures ∙ c.in-Refus
       offsets_after = written-refused _ _ e;
     }
 
--- past the check the lists are as long as each other, and short enough
-module _ (c : tie.After-enum-told2) where
-  abbrev edges : List ℕ
-  edges = c.before.before.before.before.before.before.before.args.edges.now
-
-  abbrev offsets : List ℕ
-  offsets = c.before.before.before.before.before.before.before.args.offsets.now
-
-  accepted : layout_check edges offsets ≡ Accepted
-  accepted = sym c.before.before.check-layout.ensures ∙ c.enum-told2.given.1
-
-  fitting : LayoutAccepted edges offsets
-  fitting = layout-accepted edges offsets accepted
-
 pub slice_bounds-keys-end : goal.slice_bounds-keys-end
-slice_bounds-keys-end c = (fitting c).few
+slice_bounds-keys-end c = let edges : List ℕ = c.args.edges.now in
+    let offsets : List ℕ = c.args.offsets.now in
+    let accepted : layout_check edges offsets ≡ Accepted = sym c.check_layout-verdict.ensures ∙ c.in_default.is in
+    let fitting : LayoutAccepted edges offsets = layout-accepted edges offsets accepted in
+    fitting.few
 
 pub slice_bounds-sort_events-end : goal.slice_bounds-sort_events-end
-slice_bounds-sort_events-end c = sym (length-take-le (length (edges c)) _ (fitting c).few)
+slice_bounds-sort_events-end c = let edges : List ℕ = c.args.edges.now in
+    let offsets : List ℕ = c.args.offsets.now in
+    let accepted : layout_check edges offsets ≡ Accepted = sym c.check_layout-verdict.ensures ∙ c.in_default.is in
+    let fitting : LayoutAccepted edges offsets = layout-accepted edges offsets accepted in
+    sym (length-take-le (length edges) _ fitting.few)
 
 pub sort_events-requires : goal.sort_events-requires
-sort_events-requires c = let checked = c in
+sort_events-requires c = let edges : List ℕ = c.args.edges.now in
+    let offsets : List ℕ = c.args.offsets.now in
+    let accepted : layout_check edges offsets ≡ Accepted = sym c.check_layout-verdict.ensures ∙ c.in_default.is in
+    let fitting : LayoutAccepted edges offsets = layout-accepted edges offsets accepted in
     record {
-      same_offsets = sym (fitting checked).same_length;
-      same_keys = length-take-le (length (edges checked)) _ (fitting checked).few;
-      few = (fitting checked).few;
+      same_offsets = sym fitting.same_length;
+      same_keys = length-take-le (length edges) _ fitting.few;
+      few = fitting.few;
     }
 
 pub returns : goal.returns

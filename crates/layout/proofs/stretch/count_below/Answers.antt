@@ -11,12 +11,11 @@ pub loop-k-init : goal.loop-k-init
 loop-k-init c = tally-none _ _
 
 pub overflow_add-count : goal.overflow_add-count
-overflow_add-count c = let start = c in
-    let here = c.loop-k in
+overflow_add-count c = let here = c.loop-k in
     omega (
       arith,
-      tally-small (λ t. ltb t start.args.limit) start.args.numbers.now here.count here.k here.invariant,
-      one-if-one (ltb (get_or start.args.numbers.now here.k 0) start.args.limit),
+      tally-small (λ t. ltb t c.args.limit) c.args.numbers.now here.count here.k here.invariant,
+      one-if-one (ltb (get_or c.args.numbers.now here.k 0) c.args.limit),
       c.one_if_below-count.ensures,
     )
 

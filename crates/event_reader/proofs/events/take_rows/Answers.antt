@@ -1,0 +1,57 @@
+use mathlib.Core.Path.{sym, ◌∙◌}
+use Prim.Native.Nat.{◌-◌}
+use Rattle.text.proofs.Laws.Parallel.{level-kept}
+use Rattle.reading.proofs.Progress.{line-long, less-left}
+use Rattle.event_reader.proofs.EventRows.{rows-begin, one-taken, one-refused, rows_end}
+use Rattle.text.proofs.Laws.Lines.{csv-next}
+use native.Mathlib.Omega.{arith}
+use Rattle.event_reader.proofs.events.take_rows.Goals as goal
+
+pub loop-at-init : goal.loop-at-init
+loop-at-init c = rows-begin _ _ _ _ _ c.requires
+
+pub slice_bounds-take_line-end : goal.slice_bounds-take_line-end
+slice_bounds-take_line-end c = line-long c.loop-at.invariant.progress c.loop-at-test.true (csv-next c.csv_line-line.ensures)
+
+pub take_line-requires : goal.take_line-requires
+take_line-requires c = (c.loop-at.invariant.few, c.loop-at.invariant.level)
+
+pub overflow_add-result : goal.overflow_add-result
+overflow_add-result c = omega (arith, c.loop-at.invariant.few)
+
+pub shape_of-sets-in-Refused : goal.shape_of-sets-in-Refused
+shape_of-sets-in-Refused c = c.take_line.auto.edges.1.1.0 ∙ c.loop-at.invariant.level.one ∙ sym c.requires.one
+
+pub shape_of-edges-in-Refused : goal.shape_of-edges-in-Refused
+shape_of-edges-in-Refused c = c.take_line.auto.edges.1.1.1.0 ∙ c.loop-at.invariant.level.two ∙ sym c.requires.two
+
+pub shape_of-offsets-in-Refused : goal.shape_of-offsets-in-Refused
+shape_of-offsets-in-Refused c = c.take_line.auto.edges.1.1.1.1.0 ∙ c.loop-at.invariant.level.three ∙ sym c.requires.three
+
+pub returns-in-Refused : goal.returns-in-Refused
+returns-in-Refused c = one-refused c.loop-at.invariant c.loop-at-test.true (csv-next c.csv_line-line.ensures) c.take_line.ensures c.in-Refused.is
+
+pub overflow_add-at : goal.overflow_add-at
+overflow_add-at c = omega (arith, (csv-next c.csv_line-line.ensures).inside)
+
+pub overflow_add-count : goal.overflow_add-count
+overflow_add-count c = omega (arith, c.loop-at.invariant.few)
+
+pub loop-at-smaller : goal.loop-at-smaller
+loop-at-smaller c = less-left c.loop-at.invariant.progress c.loop-at-test.true (csv-next c.csv_line-line.ensures)
+
+pub loop-at-preserved : goal.loop-at-preserved
+loop-at-preserved c = one-taken c.loop-at.invariant c.loop-at-test.true (csv-next c.csv_line-line.ensures) c.take_line.ensures c.in_default.is
+    (level-kept c.loop-at.invariant.level c.take_line.auto.edges.1.1.0 c.take_line.auto.edges.1.1.1.0 c.take_line.auto.edges.1.1.1.1.0)
+
+pub shape_of-sets : goal.shape_of-sets
+shape_of-sets c = c.loop-at.invariant.level.one ∙ sym c.requires.one
+
+pub shape_of-edges : goal.shape_of-edges
+shape_of-edges c = c.loop-at.invariant.level.two ∙ sym c.requires.two
+
+pub shape_of-offsets : goal.shape_of-offsets
+shape_of-offsets c = c.loop-at.invariant.level.three ∙ sym c.requires.three
+
+pub returns : goal.returns
+returns c = rows_end c.loop-at.invariant c.loop-at-test.false

@@ -1,0 +1,57 @@
+use mathlib.Core.Path.{sym, ◌∙◌}
+use Prim.Native.Nat.{◌-◌}
+use Rattle.text.proofs.Laws.Parallel.{level-kept}
+use Rattle.reading.proofs.Progress.{line-long, less-left}
+use Rattle.network_reader.proofs.NetworkRows.{lines-begin, one-taken, one-refused, lines_end}
+use Rattle.text.proofs.Laws.Lines.{feed-next}
+use native.Mathlib.Omega.{arith}
+use Rattle.network_reader.proofs.network.take_text.Goals as goal
+
+pub loop-at-init : goal.loop-at-init
+loop-at-init c = lines-begin _ _ _ _ c.requires
+
+pub slice_bounds-take_line-end : goal.slice_bounds-take_line-end
+slice_bounds-take_line-end c = line-long c.loop-at.invariant.progress c.loop-at-test.true (feed-next c.feed_line-line.ensures)
+
+pub take_line-requires : goal.take_line-requires
+take_line-requires c = (c.loop-at.invariant.sound, c.loop-at.invariant.level)
+
+pub shape_of-firsts-in-Refused : goal.shape_of-firsts-in-Refused
+shape_of-firsts-in-Refused c = c.take_line.auto.seconds.1.0 ∙ c.loop-at.invariant.level.one ∙ sym c.requires.one
+
+pub shape_of-seconds-in-Refused : goal.shape_of-seconds-in-Refused
+shape_of-seconds-in-Refused c = c.take_line.auto.seconds.1.1.0 ∙ c.loop-at.invariant.level.two ∙ sym c.requires.two
+
+pub shape_of-lengths-in-Refused : goal.shape_of-lengths-in-Refused
+shape_of-lengths-in-Refused c = c.take_line.auto.seconds.1.1.1.0 ∙ c.loop-at.invariant.level.three ∙ sym c.requires.three
+
+pub returns-in-Refused : goal.returns-in-Refused
+returns-in-Refused c = one-refused c.loop-at.invariant c.loop-at-test.true (feed-next c.feed_line-line.ensures) c.take_line.ensures c.in-Refused.is
+
+pub overflow_add-at : goal.overflow_add-at
+overflow_add-at c = omega (arith, (feed-next c.feed_line-line.ensures).inside)
+
+pub overflow_add-place : goal.overflow_add-place
+overflow_add-place c = omega (arith, c.loop-at.invariant.progress.small, c.loop-at.invariant.progress.within)
+
+pub loop-at-smaller : goal.loop-at-smaller
+loop-at-smaller c = less-left c.loop-at.invariant.progress c.loop-at-test.true (feed-next c.feed_line-line.ensures)
+
+pub loop-at-preserved : goal.loop-at-preserved
+loop-at-preserved c = one-taken c.loop-at.invariant c.loop-at-test.true (feed-next c.feed_line-line.ensures) c.take_line.ensures c.in-Taken.is
+    (level-kept c.loop-at.invariant.level c.take_line.auto.seconds.1.0 c.take_line.auto.seconds.1.1.0 c.take_line.auto.seconds.1.1.1.0)
+
+pub end-requires : goal.end-requires
+end-requires c = c.loop-at.invariant.sound
+
+pub shape_of-firsts : goal.shape_of-firsts
+shape_of-firsts c = c.loop-at.invariant.level.one ∙ sym c.requires.one
+
+pub shape_of-seconds : goal.shape_of-seconds
+shape_of-seconds c = c.loop-at.invariant.level.two ∙ sym c.requires.two
+
+pub shape_of-lengths : goal.shape_of-lengths
+shape_of-lengths c = c.loop-at.invariant.level.three ∙ sym c.requires.three
+
+pub returns : goal.returns
+returns c = lines_end c.loop-at.invariant c.loop-at-test.false c.end.ensures

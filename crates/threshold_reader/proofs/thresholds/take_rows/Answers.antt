@@ -1,0 +1,40 @@
+use mathlib.Core.Path.{refl, ◌∙◌}
+use Prim.Native.Nat.{◌-◌}
+use native.Mathlib.Omega.{arith}
+use Rattle.text.proofs.Laws.Lines.{csv-next}
+use Rattle.reading.proofs.Progress.{line-long, less-left}
+use Rattle.threshold_reader.proofs.ThresholdRows.{rows-begin, row-taken, row-refused, rows_none, rows-some}
+use Rattle.threshold_reader.proofs.thresholds.take_rows.Goals as goal
+
+pub loop-at-init : goal.loop-at-init
+loop-at-init c = (rows-begin _ _ (omega arith), refl)
+
+pub slice_bounds-take_line-end : goal.slice_bounds-take_line-end
+slice_bounds-take_line-end c = line-long c.loop-at.invariant.0.progress c.loop-at-test.true (csv-next c.csv_line-line.ensures)
+
+pub shape_of-list-in-Refused : goal.shape_of-list-in-Refused
+shape_of-list-in-Refused c = c.take_line.auto.1.1.0 ∙ c.loop-at.invariant.1
+
+pub returns-in-Refused : goal.returns-in-Refused
+returns-in-Refused c = row-refused c.loop-at.invariant.0 c.loop-at-test.true (csv-next c.csv_line-line.ensures) c.take_line.ensures c.in-Refused.is
+
+pub overflow_add-at : goal.overflow_add-at
+overflow_add-at c = omega (arith, (csv-next c.csv_line-line.ensures).inside)
+
+pub loop-at-smaller : goal.loop-at-smaller
+loop-at-smaller c = less-left c.loop-at.invariant.0.progress c.loop-at-test.true (csv-next c.csv_line-line.ensures)
+
+pub loop-at-preserved : goal.loop-at-preserved
+loop-at-preserved c = (row-taken c.loop-at.invariant.0 c.loop-at-test.true (csv-next c.csv_line-line.ensures) c.take_line.ensures c.in_default.is c.take_line.auto.1.1.0, c.take_line.auto.1.1.0 ∙ c.loop-at.invariant.1)
+
+pub shape_of-list-then-count-eq0 : goal.shape_of-list-then-count-eq0
+shape_of-list-then-count-eq0 c = c.loop-at.invariant.1
+
+pub returns-then-count-eq0 : goal.returns-then-count-eq0
+returns-then-count-eq0 c = rows_none c.loop-at.invariant.0 c.loop-at-test.false c.if-count-eq0.true
+
+pub shape_of-list : goal.shape_of-list
+shape_of-list c = c.loop-at.invariant.1
+
+pub returns : goal.returns
+returns c = rows-some c.loop-at.invariant.0 c.loop-at-test.false c.if-count-eq0.false
