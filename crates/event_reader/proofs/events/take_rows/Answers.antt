@@ -20,13 +20,13 @@ pub overflow_add-result : goal.overflow_add-result
 overflow_add-result c = omega (arith, c.loop-at.invariant.few)
 
 pub shape_of-sets-in-Refused : goal.shape_of-sets-in-Refused
-shape_of-sets-in-Refused c = c.take_line.auto.edges.1.1.0 ∙ c.loop-at.invariant.level.one ∙ sym c.requires.one
+shape_of-sets-in-Refused c = c.take_line.auto.sets ∙ c.loop-at.invariant.level.one ∙ sym c.requires.one
 
 pub shape_of-edges-in-Refused : goal.shape_of-edges-in-Refused
-shape_of-edges-in-Refused c = c.take_line.auto.edges.1.1.1.0 ∙ c.loop-at.invariant.level.two ∙ sym c.requires.two
+shape_of-edges-in-Refused c = c.take_line.auto.edges ∙ c.loop-at.invariant.level.two ∙ sym c.requires.two
 
 pub shape_of-offsets-in-Refused : goal.shape_of-offsets-in-Refused
-shape_of-offsets-in-Refused c = c.take_line.auto.edges.1.1.1.1.0 ∙ c.loop-at.invariant.level.three ∙ sym c.requires.three
+shape_of-offsets-in-Refused c = c.take_line.auto.offsets ∙ c.loop-at.invariant.level.three ∙ sym c.requires.three
 
 pub returns-in-Refused : goal.returns-in-Refused
 returns-in-Refused c = one-refused c.loop-at.invariant c.loop-at-test.true (csv-next c.csv_line-line.ensures) c.take_line.ensures c.in-Refused.is
@@ -42,7 +42,7 @@ loop-at-smaller c = less-left c.loop-at.invariant.progress c.loop-at-test.true (
 
 pub loop-at-preserved : goal.loop-at-preserved
 loop-at-preserved c = one-taken c.loop-at.invariant c.loop-at-test.true (csv-next c.csv_line-line.ensures) c.take_line.ensures c.in_default.is
-    (level-kept c.loop-at.invariant.level c.take_line.auto.edges.1.1.0 c.take_line.auto.edges.1.1.1.0 c.take_line.auto.edges.1.1.1.1.0)
+    (level-kept c.loop-at.invariant.level c.take_line.auto.sets c.take_line.auto.edges c.take_line.auto.offsets)
 
 pub shape_of-sets : goal.shape_of-sets
 shape_of-sets c = c.loop-at.invariant.level.one ∙ sym c.requires.one

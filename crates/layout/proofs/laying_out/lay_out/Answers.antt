@@ -44,10 +44,9 @@ sort_events-requires c = let edges : List ℕ = c.args.edges.now in
     }
 
 pub returns : goal.returns
-returns c = let after-sort = c in
-    let checked = after-sort.before.before.before.before in
+returns c = let accepted : layout_check c.args.edges.now c.args.offsets.now ≡ Accepted = sym c.check_layout-verdict.ensures ∙ c.in_default.is in
     record {
-      verdict = checked.before.before.check-layout.ensures;
-      edges_after = written_all _ _ _ (accepted checked) after-sort.sort-events.ensures.sorted_edges after-sort.sort-events.auto.0;
-      offsets_after = written_all _ _ _ (accepted checked) after-sort.sort-events.ensures.sorted_offsets after-sort.sort-events.auto.1.0;
+      verdict = c.check_layout-verdict.ensures;
+      edges_after = written_all _ _ _ accepted c.sort_events.ensures.sorted_edges c.sort_events.auto.edges;
+      offsets_after = written_all _ _ _ accepted c.sort_events.ensures.sorted_offsets c.sort_events.auto.offsets;
     }

@@ -17,13 +17,13 @@ pub take_line-requires : goal.take_line-requires
 take_line-requires c = (c.loop-at.invariant.sound, c.loop-at.invariant.level)
 
 pub shape_of-firsts-in-Refused : goal.shape_of-firsts-in-Refused
-shape_of-firsts-in-Refused c = c.take_line.auto.seconds.1.0 ∙ c.loop-at.invariant.level.one ∙ sym c.requires.one
+shape_of-firsts-in-Refused c = c.take_line.auto.firsts ∙ c.loop-at.invariant.level.one ∙ sym c.requires.one
 
 pub shape_of-seconds-in-Refused : goal.shape_of-seconds-in-Refused
-shape_of-seconds-in-Refused c = c.take_line.auto.seconds.1.1.0 ∙ c.loop-at.invariant.level.two ∙ sym c.requires.two
+shape_of-seconds-in-Refused c = c.take_line.auto.seconds ∙ c.loop-at.invariant.level.two ∙ sym c.requires.two
 
 pub shape_of-lengths-in-Refused : goal.shape_of-lengths-in-Refused
-shape_of-lengths-in-Refused c = c.take_line.auto.seconds.1.1.1.0 ∙ c.loop-at.invariant.level.three ∙ sym c.requires.three
+shape_of-lengths-in-Refused c = c.take_line.auto.lengths ∙ c.loop-at.invariant.level.three ∙ sym c.requires.three
 
 pub returns-in-Refused : goal.returns-in-Refused
 returns-in-Refused c = one-refused c.loop-at.invariant c.loop-at-test.true (feed-next c.feed_line-line.ensures) c.take_line.ensures c.in-Refused.is
@@ -39,7 +39,7 @@ loop-at-smaller c = less-left c.loop-at.invariant.progress c.loop-at-test.true (
 
 pub loop-at-preserved : goal.loop-at-preserved
 loop-at-preserved c = one-taken c.loop-at.invariant c.loop-at-test.true (feed-next c.feed_line-line.ensures) c.take_line.ensures c.in-Taken.is
-    (level-kept c.loop-at.invariant.level c.take_line.auto.seconds.1.0 c.take_line.auto.seconds.1.1.0 c.take_line.auto.seconds.1.1.1.0)
+    (level-kept c.loop-at.invariant.level c.take_line.auto.firsts c.take_line.auto.seconds c.take_line.auto.lengths)
 
 pub end-requires : goal.end-requires
 end-requires c = c.loop-at.invariant.sound

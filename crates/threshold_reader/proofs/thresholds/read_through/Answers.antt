@@ -8,10 +8,10 @@ pub returns-in-Refused : goal.returns-in-Refused
 returns-in-Refused c = thresholds-too-long _ _ (sym c.check_length.ensures ∙ c.in-Refused.is)
 
 pub slice_bounds-answer-end : goal.slice_bounds-answer-end
-slice_bounds-answer-end c = omega (arith, thresholds-few c.take_text.ensures c.in-Read.is, c.take_text.auto.1.0)
+slice_bounds-answer-end c = omega (arith, thresholds-few c.take_text.ensures c.in-Read.is, c.take_text.auto.list)
 
 pub slice_bounds-answer-end-in-Read : goal.slice_bounds-answer-end-in-Read
-slice_bounds-answer-end-in-Read c = sym (length-take-le _ _ (omega (arith, thresholds-few c.take_text.ensures c.in-Read.is, c.take_text.auto.1.0)))
+slice_bounds-answer-end-in-Read c = sym (length-take-le _ _ (omega (arith, thresholds-few c.take_text.ensures c.in-Read.is, c.take_text.auto.list)))
 
 pub returns-in-Refused-take_text : goal.returns-in-Refused-take_text
 returns-in-Refused-take_text c = thresholds-bad _ _ (sym c.check_length.ensures ∙ c.in_default.is) c.take_text.ensures c.in-Refused-take_text.is

@@ -13,7 +13,7 @@ pub slice_bounds-take_line-end : goal.slice_bounds-take_line-end
 slice_bounds-take_line-end c = line-long c.loop-at.invariant.0.progress c.loop-at-test.true (csv-next c.csv_line-line.ensures)
 
 pub shape_of-list-in-Refused : goal.shape_of-list-in-Refused
-shape_of-list-in-Refused c = c.take_line.auto.1.1.0 ∙ c.loop-at.invariant.1
+shape_of-list-in-Refused c = c.take_line.auto.list ∙ c.loop-at.invariant.1
 
 pub returns-in-Refused : goal.returns-in-Refused
 returns-in-Refused c = row-refused c.loop-at.invariant.0 c.loop-at-test.true (csv-next c.csv_line-line.ensures) c.take_line.ensures c.in-Refused.is
@@ -25,7 +25,7 @@ pub loop-at-smaller : goal.loop-at-smaller
 loop-at-smaller c = less-left c.loop-at.invariant.0.progress c.loop-at-test.true (csv-next c.csv_line-line.ensures)
 
 pub loop-at-preserved : goal.loop-at-preserved
-loop-at-preserved c = (row-taken c.loop-at.invariant.0 c.loop-at-test.true (csv-next c.csv_line-line.ensures) c.take_line.ensures c.in_default.is c.take_line.auto.1.1.0, c.take_line.auto.1.1.0 ∙ c.loop-at.invariant.1)
+loop-at-preserved c = (row-taken c.loop-at.invariant.0 c.loop-at-test.true (csv-next c.csv_line-line.ensures) c.take_line.ensures c.in_default.is c.take_line.auto.list, c.take_line.auto.list ∙ c.loop-at.invariant.1)
 
 pub shape_of-list-then-count-eq0 : goal.shape_of-list-then-count-eq0
 shape_of-list-then-count-eq0 c = c.loop-at.invariant.1
