@@ -33,7 +33,7 @@ returns c = let accepted : row_check (network c.args.nodes c.args.firsts.now c.a
     let filled = c.write_row.ensures in
     record {
       verdict = c.check_row-verdict.ensures;
-      after = written-accepted _ _ _ accepted (row-length _ _ _) filled.0;
-      small = λ e. searched-small filled.1;
-      whole = λ e. searched-whole filled.1;
+      after = written-accepted _ _ _ accepted (row-length _ _ _) filled.answers_after;
+      small = λ e. searched-small filled.searched;
+      whole = λ e. searched-whole filled.searched;
     }

@@ -46,11 +46,11 @@ loop-h-smaller c = omega (arith, reach c.loop-h.invariant.0 (c.loop-h.h - 1) (an
 
 pub loop-h-preserved : goal.loop-h-preserved
 loop-h-preserved c = let o = c.offer-waiting.auto in (
-  going_more c.loop-h.invariant.0 (c.loop-h.h - 1) c.tail_of-w.result (an-arc c.loop-h-test.true) (sym c.tail_of-w.ensures) c.offer-waiting.ensures o.0 o.1.0,
-  o.0 ∙ c.loop-h.invariant.1,
-  o.1.0 ∙ c.loop-h.invariant.2,
-  o.1.1.0 ∙ c.loop-h.invariant.3,
-  o.1.1.1.0 ∙ c.loop-h.invariant.4,
+  going_more c.loop-h.invariant.0 (c.loop-h.h - 1) c.tail_of-w.result (an-arc c.loop-h-test.true) (sym c.tail_of-w.ensures) c.offer-waiting.ensures o.dist o.front,
+  o.dist ∙ c.loop-h.invariant.1,
+  o.front ∙ c.loop-h.invariant.2,
+  o.keys ∙ c.loop-h.invariant.3,
+  o.slots ∙ c.loop-h.invariant.4,
 )
 
 pub shape_of-dist : goal.shape_of-dist

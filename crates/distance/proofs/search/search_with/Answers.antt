@@ -11,6 +11,7 @@ use lib.ListN.{length, length-set}
 use mathlib.Core.Logic.{⊎_elim}
 use mathlib.Core.Path.{◌≡◌, ◌∙◌, refl}
 use native.Mathlib.Omega.{arith}
+use Rattle.distance.proofs.search.search_with.Goals.{then-len-eq0, else-len-eq0+then-bound-least}
 use Rattle.distance.proofs.search.search_with.Goals as goal
 
 pub bounds-dist-source : goal.bounds-dist-source
@@ -66,7 +67,8 @@ bounds-front-best c = let found : Least c.picking.keys c.picking.len 0 c.picking
 
 pub remove-requires : goal.remove-requires
 remove-requires c = let found : Least c.picking.keys c.picking.len 0 c.picking.len c.loop-k.key = ends_at (c.loop-k.invariant.1 (omega (arith, c.if-len-eq0.false))) c.if-k-len.true in
-    removable c.picking.invariant.0 (turn-nearest c.picking.invariant.0 found c.place_of-best.ensures c.entry_of-least.ensures) (c.picking.len - 1) (omega arith)
+    let r = removable c.picking.invariant.0 (turn-nearest c.picking.invariant.0 found c.place_of-best.ensures c.entry_of-least.ensures) (c.picking.len - 1) (omega arith) in
+    record { place_le_last = r.0; last_in_bounds = r.1 }
 
 pub overflow_add-picked : goal.overflow_add-picked
 overflow_add-picked c = omega (arith, all-few c.picking.invariant.0)
@@ -75,23 +77,25 @@ pub follow-len-requires : goal.follow-len-requires
 follow-len-requires c = let found : Least c.picking.keys c.picking.len 0 c.picking.len c.loop-k.key = ends_at (c.loop-k.invariant.1 (omega (arith, c.if-len-eq0.false))) c.if-k-len.true in
     let t = c.picking.invariant.0 in
     let x = (turn-nearest c.picking.invariant.0 found c.place_of-best.ensures c.entry_of-least.ensures) in
-    let last : c.picking.len ≡ suc (c.picking.len - 1) = omega arith in (
-      turn-ready t x last c.remove.ensures,
-      (turn-pick t x last c.remove.ensures (omega arith), (turn-keyed t x last c.remove.ensures, x.is)),
-    )
+    let last : c.picking.len ≡ suc (c.picking.len - 1) = omega arith in
+    record {
+      ready = turn-ready t x last c.remove.ensures;
+      following = turn-pick t x last c.remove.ensures (omega arith);
+      keyed = (turn-keyed t x last c.remove.ensures, x.is);
+    }
 
 pub picking-smaller : goal.picking-smaller
 picking-smaller c = omega (arith, few c.picking.invariant.0.state)
 
 pub picking-preserved : goal.picking-preserved
 picking-preserved c = let i = c.picking.invariant in
-    let f = c.follow-len.auto.1.1.1.1.1.1.1.1 in
+    let f = c.follow-len.auto in
     let r = c.remove.auto in (
-      record { ready = ready-again _ _ i.0.ready f.0 (f.1.0 ∙ r.0); state = c.follow-len.ensures.state; keyed = c.follow-len.ensures.keyed_2 },
-      f.0 ∙ i.1,
-      f.1.0 ∙ r.0 ∙ i.2,
-      f.1.1.0 ∙ r.1.0 ∙ i.3,
-      f.1.1.1.0 ∙ r.1.1.0 ∙ i.4,
+      record { ready = ready-again _ _ i.0.ready f.dist (f.front ∙ r.front); state = c.follow-len.ensures.state; keyed = c.follow-len.ensures.keyed_2 },
+      f.dist ∙ i.1,
+      f.front ∙ r.front ∙ i.2,
+      f.keys ∙ r.keys ∙ i.3,
+      f.slots ∙ r.slots ∙ i.4,
     )
 
 pub shape_of-dist-in-Exhausted : goal.shape_of-dist-in-Exhausted
@@ -108,10 +112,10 @@ shape_of-slots-in-Exhausted c = c.picking.invariant.4 ∙ simp length-set
 
 pub returns-in-Exhausted : goal.returns-in-Exhausted
 returns-in-Exhausted c = let t = c.picking.invariant.0 in
-    ⊎_elim
-    (λ w. searched-all t.ready.ends t.ready.few_nodes t.state w.0.taken)
-    (λ w. let z : ◌≡◌ {A = ℕ} 0 1 = cc (w.3, c.in-Exhausted.is) in absurd (omega arith))
-    c.if-len-eq0.branch
+    elim c.if-len-eq0.branch [
+      | then-len-eq0 w ↦ searched-all t.ready.ends t.ready.few_nodes t.state w.if-len-eq0.true
+      | else-len-eq0+then-bound-least w ↦ let z : ◌≡◌ {A = ℕ} 0 1 = cc (w.stop-is, c.in-Exhausted.is) in absurd (omega arith)
+    ]
 
 pub shape_of-dist-in-Beyond : goal.shape_of-dist-in-Beyond
 shape_of-dist-in-Beyond c = c.clip.auto.dist ∙ c.picking.invariant.1 ∙ simp length-set c.clear.auto.list
@@ -128,5 +132,11 @@ shape_of-slots-in-Beyond c = c.picking.invariant.4 ∙ simp length-set
 pub returns-in-Beyond : goal.returns-in-Beyond
 returns-in-Beyond c = let t = c.picking.invariant.0 in
     searched t.ready.ends t.ready.few_nodes t.state
-    (⊎_elim (λ w j h. omega arith) (λ w j h. omega (arith, (turn-nearest t (found (record { before = c; if2 = w.0 })) refl w.1.ensures).nearest j h)) c.if-len-eq0.branch)
+    (elim c.if-len-eq0.branch [
+      | then-len-eq0 w ↦ λ j h. let none = w.if-len-eq0.true in absurd (omega arith)
+      | else-len-eq0+then-bound-least w ↦ λ j h.
+          let found : Least c.picking.keys c.picking.len 0 c.picking.len c.loop-k.key = ends_at (c.loop-k.invariant.1 (omega (arith, w.if-len-eq0.false))) c.if-k-len.true in
+          let over = w.if-bound-least.true in
+          omega (arith, (turn-nearest t found refl w.entry_of-least.ensures).nearest j h)
+    ])
     _ c.clip.ensures

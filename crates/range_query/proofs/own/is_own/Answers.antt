@@ -1,4 +1,5 @@
 -- Each comparison that fails tells.
+use borrow.Author.Tests.{not-false}
 use mathlib.Core.Bool.{true≢false}
 use mathlib.Core.Path.{sym}
 use Rattle.range_query.proofs.own.is_own.Goals as goal
@@ -16,4 +17,4 @@ pub returns-then-xs-gt-MAX_EVENTS : goal.returns-then-xs-gt-MAX_EVENTS
 returns-then-xs-gt-MAX_EVENTS c = λ e. absurd (true≢false (sym e))
 
 pub returns : goal.returns
-returns c = λ e. (record { one = c.if-not-edges.false; alike_long = c.if-edges.false; alike_codes = c.if-edges-2.false }, c.if-xs-gt-MAX_EVENTS.false, c.are_same.ensures e)
+returns c = λ e. (record { one = not-false _ c.if-not-edges.false; alike_long = c.if-edges.false; alike_codes = c.if-edges-2.false }, c.if-xs-gt-MAX_EVENTS.false, c.are_same.ensures e)
