@@ -1,0 +1,27 @@
+-- The sets laid out one after the other, and cut where each begins.
+use mathlib.Core.Path.{◌≡◌, refl, ap, ◌∙◌}
+use Prim.Native.Nat.{suc, ◌+◌}
+use native.Mathlib.Numerals.{add-one}
+use Rattle.model.specs.Events.{set_count}
+use Rattle.prepare.proofs.Laws.Preparing.{sets-fit, startable, runs-laid, laid_kept}
+use Rattle.prepare.proofs.laying_out.lay_runs.Goals as goal
+
+pub lay_sets-requires : goal.lay_sets-requires
+unfolding set_count
+lay_sets-requires c = let set-count : c.greatest_set.result + 1 ≡ set_count c.args.sets.now = add-one _ ∙ ap suc c.greatest_set.ensures in
+    let count = set-count in
+    rw count (sets-fit _ _ _ _ _ _ _ c.requires _ refl)
+
+pub cut_sets-requires : goal.cut_sets-requires
+unfolding set_count
+cut_sets-requires c = let set-count : c.greatest_set.result + 1 ≡ set_count c.args.sets.now = add-one _ ∙ ap suc c.greatest_set.ensures in
+    let laid = c.lay_sets in
+    let count = set-count in
+    rw count (startable _ _ _ _ _ _ _ c.requires _ _ _ (rw count at laid.ensures.0) laid.auto.1.1.1.1.0 laid.auto.1.1.1.1.1.1.0)
+
+pub returns : goal.returns
+unfolding set_count
+returns c = let set-count : c.greatest_set.result + 1 ≡ set_count c.args.sets.now = add-one _ ∙ ap suc c.greatest_set.ensures in
+    let laid = c.lay_sets in
+    let count = set-count in
+    let cut = c.cut_sets in record { runs_laid = runs-laid _ _ _ _ _ _ _ c.requires _ _ _ (rw count at laid.ensures.0) _ _ (rw count at cut.ensures.0); laid_kept = laid_kept _ _ _ _ _ _ _ c.requires (rw count at laid.ensures.1.0) (rw count at laid.ensures.1.1) (rw count at cut.ensures.1.0) (rw count at cut.ensures.1.1) }

@@ -1,0 +1,46 @@
+use mathlib.Core.Path.{refl, sym, ◌∙◌}
+use native.Mathlib.Omega.{arith}
+use native.Mathlib.Numerals.{sub-one}
+use Rattle.model.specs.Network.{network}
+use Rattle.model.proofs.Laws.Refusal.{not-accepted}
+use Rattle.prepare.specs.Prepared.{greatest}
+use Rattle.prepare.proofs.Laws.Verdict.{CountsAccepted, counts-accepted}
+use Rattle.prepare.proofs.Laws.Preparing.{layable, endable, prepared}
+use borrow.Author.Rules.{rules}
+use Rattle.prepare.proofs.prepare.Goals as goal
+
+pub returns-in-Refused : goal.returns-in-Refused
+returns-in-Refused c = let checked = c.check_counts-verdict.ensures in
+    let refused = sym c.in-Refused.is in (
+      record { verdict = checked; prepared = λ e. not-accepted (refused ∙ checked ∙ e) },
+      (record { left = λ _ _ _. (refl, refl, refl, refl, refl) }, record { laid = λ e. not-accepted (refused ∙ e); table_kept = λ e. not-accepted (refused ∙ e) }),
+    )
+
+pub overflow_sub-bound : goal.overflow_sub-bound
+overflow_sub-bound c = let accepted : CountsAccepted (network c.args.nodes c.args.firsts.now c.args.seconds.now c.args.lengths.now) c.args.sets.now c.args.edges.now c.args.offsets.now c.args.thresholds.now c.args.room = counts-accepted _ _ _ _ _ _ (sym c.check_counts-verdict.ensures ∙ c.in_default.is) in
+    accepted.thresholds-are.some
+
+pub bounds-thresholds-thresholds : goal.bounds-thresholds-thresholds
+bounds-thresholds-thresholds c = let accepted : CountsAccepted (network c.args.nodes c.args.firsts.now c.args.seconds.now c.args.lengths.now) c.args.sets.now c.args.edges.now c.args.offsets.now c.args.thresholds.now c.args.room = counts-accepted _ _ _ _ _ _ (sym c.check_counts-verdict.ensures ∙ c.in_default.is) in
+    omega (arith, accepted.thresholds-are.some)
+
+pub lay_runs-requires : goal.lay_runs-requires
+lay_runs-requires c = let accepted : CountsAccepted (network c.args.nodes c.args.firsts.now c.args.seconds.now c.args.lengths.now) c.args.sets.now c.args.edges.now c.args.offsets.now c.args.thresholds.now c.args.room = counts-accepted _ _ _ _ _ _ (sym c.check_counts-verdict.ensures ∙ c.in_default.is) in
+    let args = c.args in
+    layable _ _ _ _ accepted.sets-are args.laid-edges.now args.laid-offsets.now args.bounds.now args.set_runs.now
+    (search rules) (search rules) (search rules) (search rules)
+
+pub end_table-requires : goal.end_table-requires
+end_table-requires c = let accepted : CountsAccepted (network c.args.nodes c.args.firsts.now c.args.seconds.now c.args.lengths.now) c.args.sets.now c.args.edges.now c.args.offsets.now c.args.thresholds.now c.args.room = counts-accepted _ _ _ _ _ _ (sym c.check_counts-verdict.ensures ∙ c.in_default.is) in
+    let args = c.args in
+    endable _ _ _ _ accepted.sets-are args.table.now (search rules)
+
+pub returns : goal.returns
+unfolding greatest
+returns c = (
+  record {
+    verdict = c.check_counts-verdict.ensures;
+    prepared = λ _. prepared _ _ _ _ _ _ _ _ _ _ c.lay_runs.ensures.runs_laid (rw sub-one at c.end_table.ensures.ends_filled);
+  },
+  (record { left = λ _ _ e. not-accepted (sym e ∙ c.in_default.is) }, record { laid = λ _. c.lay_runs.ensures.laid_kept; table_kept = λ _. c.end_table.ensures.table_kept }),
+)

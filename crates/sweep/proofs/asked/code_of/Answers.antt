@@ -1,0 +1,6 @@
+-- Node v's entry stands at index v - 1.
+use native.Mathlib.Numerals.{sub-one}
+use Rattle.sweep.proofs.asked.code_of.Goals as goal
+
+pub returns : goal.returns
+returns c = rw (← sub-one c.args.v, ← c.less.ensures) c.value_at.ensures
