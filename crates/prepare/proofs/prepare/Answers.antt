@@ -10,11 +10,10 @@ use borrow.Author.Rules.{rules}
 use Rattle.prepare.proofs.prepare.Goals as goal
 
 pub returns-in-Refused : goal.returns-in-Refused
-returns-in-Refused c = let checked = c.check_counts-verdict.ensures in
-    let refused = sym c.in-Refused.is in (
-      record { verdict = checked; prepared = λ e. not-accepted (refused ∙ checked ∙ e) },
-      (record { left = λ _ _ _. (refl, refl, refl, refl, refl) }, record { laid = λ e. not-accepted (refused ∙ e); table_kept = λ e. not-accepted (refused ∙ e) }),
-    )
+returns-in-Refused c = let refused = sym c.in-Refused.is in (
+  record { verdict = c.check_counts-verdict.ensures; prepared = λ e. not-accepted (refused ∙ c.check_counts-verdict.ensures ∙ e) },
+  (record { left = λ _ _ _. (refl, refl, refl, refl, refl) }, record { laid = λ e. not-accepted (refused ∙ e); table_kept = λ e. not-accepted (refused ∙ e) }),
+)
 
 pub overflow_sub-bound : goal.overflow_sub-bound
 overflow_sub-bound c = let accepted : CountsAccepted (network c.args.nodes c.args.firsts.now c.args.seconds.now c.args.lengths.now) c.args.sets.now c.args.edges.now c.args.offsets.now c.args.thresholds.now c.args.room = counts-accepted _ _ _ _ _ _ (sym c.check_counts-verdict.ensures ∙ c.in_default.is) in
@@ -26,14 +25,12 @@ bounds-thresholds-thresholds c = let accepted : CountsAccepted (network c.args.n
 
 pub lay_runs-requires : goal.lay_runs-requires
 lay_runs-requires c = let accepted : CountsAccepted (network c.args.nodes c.args.firsts.now c.args.seconds.now c.args.lengths.now) c.args.sets.now c.args.edges.now c.args.offsets.now c.args.thresholds.now c.args.room = counts-accepted _ _ _ _ _ _ (sym c.check_counts-verdict.ensures ∙ c.in_default.is) in
-    let args = c.args in
-    layable _ _ _ _ accepted.sets-are args.laid-edges.now args.laid-offsets.now args.bounds.now args.set_runs.now
+    layable _ _ _ _ accepted.sets-are c.args.laid_edges.now c.args.laid_offsets.now c.args.bounds.now c.args.set_runs.now
     (search rules) (search rules) (search rules) (search rules)
 
 pub end_table-requires : goal.end_table-requires
 end_table-requires c = let accepted : CountsAccepted (network c.args.nodes c.args.firsts.now c.args.seconds.now c.args.lengths.now) c.args.sets.now c.args.edges.now c.args.offsets.now c.args.thresholds.now c.args.room = counts-accepted _ _ _ _ _ _ (sym c.check_counts-verdict.ensures ∙ c.in_default.is) in
-    let args = c.args in
-    endable _ _ _ _ accepted.sets-are args.table.now (search rules)
+    endable _ _ _ _ accepted.sets-are c.args.table.now (search rules)
 
 pub returns : goal.returns
 unfolding greatest

@@ -14,22 +14,17 @@ pub overflow_cast-centre-2 : goal.overflow_cast-centre-2
 overflow_cast-centre-2 c = omega (arith, c.type_inv.lengths c.args.edge)
 
 pub fill_row-requires : goal.fill_row-requires
-fill_row-requires c = let pre = c.requires in
-    let is = network-accepted _ pre.0 in
-    (pre.0, (is.ends.first_is _ pre.1.0, is.nodes_to))
+fill_row-requires c = let is = network-accepted _ c.requires.lengths_value in
+    (c.requires.lengths_value, (is.ends.first_is _ c.requires.edge_in_bounds.0, is.nodes_to))
 
 pub fill_row-requires-2 : goal.fill_row-requires-2
-fill_row-requires-2 c = let pre = c.requires in
-    let is = network-accepted _ pre.0 in
-    (pre.0, (is.ends.second_is _ pre.1.0, is.nodes_to))
+fill_row-requires-2 c = let is = network-accepted _ c.requires.lengths_value in
+    (c.requires.lengths_value, (is.ends.second_is _ c.requires.edge_in_bounds.0, is.nodes_to))
 
 pub count_all-requires : goal.count_all-requires
 count_all-requires c = let is = network-accepted _ c.requires.lengths_value in
-    let kept1 = c.fill_row.auto.row in
-    let kept2 = c.fill_row-2.auto.row in
     record { nodes_le_max_nodes = omega (arith, is.nodes_to); prepared = prepared is _ (record { offset_small = omega (arith, c.ranges.offset); rest_small = omega (arith, is.length_to c.args.edge c.requires.edge_in_bounds.0); radius_small = omega (arith, c.ranges.radius) }) _ _ (omega (arith, is.nodes_to)) (omega (arith, is.nodes_to)) }
 
 pub returns : goal.returns
-returns c = let pre = c.requires in
-    c.count_all.ensures ∙
-    whole-count _ (network-accepted _ pre.0).ends _ _ _ _ _ c.fill_row.ensures c.fill_row-2.ensures pre.1.0 pre.1.1
+returns c = c.count_all.ensures ∙
+    whole-count _ (network-accepted _ c.requires.lengths_value).ends _ _ _ _ _ c.fill_row.ensures c.fill_row-2.ensures c.requires.edge_in_bounds.0 c.requires.edge_in_bounds.1

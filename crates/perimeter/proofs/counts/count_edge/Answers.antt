@@ -27,14 +27,13 @@ pub overflow_cast-lengths : goal.overflow_cast-lengths
 overflow_cast-lengths c = omega (arith, c.type_inv.lengths c.args.j)
 
 pub count_met-requires : goal.count_met-requires
-count_met-requires c = let near = c.requires.prepared.near in
-    record {
-      end1_small = c.reach-end1.ensures.small;
-      end2_small = c.reach-end2.ensures.small;
-      length_small = omega (arith, c.type_inv.lengths c.args.j);
-      offset_small = omega (arith, near.offset_small);
-      radius_small = omega (arith, near.radius_small);
-    }
+count_met-requires c = record {
+  end1_small = c.reach-end1.ensures.small;
+  end2_small = c.reach-end2.ensures.small;
+  length_small = omega (arith, c.type_inv.lengths c.args.j);
+  offset_small = omega (arith, c.requires.prepared.near.offset_small);
+  radius_small = omega (arith, c.requires.prepared.near.radius_small);
+}
 
 pub returns : goal.returns
 unfolding met_count edge_at

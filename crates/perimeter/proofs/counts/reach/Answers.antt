@@ -12,15 +12,13 @@ pub overflow_cast-row2 : goal.overflow_cast-row2
 overflow_cast-row2 c = omega (arith, c.type_inv.row2 c.args.k)
 
 pub by_ends-requires : goal.by_ends-requires
-by_ends-requires c = let a = c.args in
-    omega (arith, c.type_inv.row1 a.k, c.type_inv.row2 a.k)
+by_ends-requires c = omega (arith, c.type_inv.row1 c.args.k, c.type_inv.row2 c.args.k)
 
 pub returns : goal.returns
 unfolding reached
-returns c = let a = c.args in
-    let e1 = c.type_inv.row1 a.k in
-    let e2 = c.type_inv.row2 a.k in
+returns c = let e1 = c.type_inv.row1 c.args.k in
+    let e2 = c.type_inv.row2 c.args.k in
     record {
       is = c.by_ends.ensures;
-      small = omega (arith, c.by_ends.ensures, by-ends-small a.c.offset a.c.rest (get_or a.row1.now a.k 0) (get_or a.row2.now a.k 0) (2 ^ 32) (2 ^ 32) (omega arith) (omega arith) (omega arith) (omega arith));
+      small = omega (arith, c.by_ends.ensures, by-ends-small c.args.c.offset c.args.c.rest (get_or c.args.row1.now c.args.k 0) (get_or c.args.row2.now c.args.k 0) (2 ^ 32) (2 ^ 32) (omega arith) (omega arith) (omega arith) (omega arith));
     }

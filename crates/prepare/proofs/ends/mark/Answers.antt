@@ -18,22 +18,19 @@ overflow_cast-v c = omega (arith, c.type_inv.edges c.loop-k.k)
 pub overflow_sub-v : goal.overflow_sub-v
 overflow_sub-v c = let edges-of : List ℕ = c.args.edges.now in
     let ends_of : List ℕ = c.args.ends.now in
-    let edge-is : (1 ≤ get_or edges-of c.loop-k.k 0) × (get_or edges-of c.loop-k.k 0 ≤ length ends_of) = let pre = c.requires in
-    (pre.edge_from c.loop-k.k (omega arith), pre.edge_to c.loop-k.k (omega arith)) in
+    let edge-is : (1 ≤ get_or edges-of c.loop-k.k 0) × (get_or edges-of c.loop-k.k 0 ≤ length ends_of) = (c.requires.edge_from c.loop-k.k (omega arith), c.requires.edge_to c.loop-k.k (omega arith)) in
     omega (arith, edge-is)
 
 pub offset_bounds-ends-edges : goal.offset_bounds-ends-edges
 offset_bounds-ends-edges c = let edges-of : List ℕ = c.args.edges.now in
     let ends_of : List ℕ = c.args.ends.now in
-    let edge-is : (1 ≤ get_or edges-of c.loop-k.k 0) × (get_or edges-of c.loop-k.k 0 ≤ length ends_of) = let pre = c.requires in
-    (pre.edge_from c.loop-k.k (omega arith), pre.edge_to c.loop-k.k (omega arith)) in
+    let edge-is : (1 ≤ get_or edges-of c.loop-k.k 0) × (get_or edges-of c.loop-k.k 0 ≤ length ends_of) = (c.requires.edge_from c.loop-k.k (omega arith), c.requires.edge_to c.loop-k.k (omega arith)) in
     omega (arith, edge-is)
 
 pub bounds-ends-edges : goal.bounds-ends-edges
 bounds-ends-edges c = let edges-of : List ℕ = c.args.edges.now in
     let ends_of : List ℕ = c.args.ends.now in
-    let edge-is : (1 ≤ get_or edges-of c.loop-k.k 0) × (get_or edges-of c.loop-k.k 0 ≤ length ends_of) = let pre = c.requires in
-    (pre.edge_from c.loop-k.k (omega arith), pre.edge_to c.loop-k.k (omega arith)) in
+    let edge-is : (1 ≤ get_or edges-of c.loop-k.k 0) × (get_or edges-of c.loop-k.k 0 ≤ length ends_of) = (c.requires.edge_from c.loop-k.k (omega arith), c.requires.edge_to c.loop-k.k (omega arith)) in
     omega (arith, edge-is)
 
 pub overflow_cast-v-in-loop-k : goal.overflow_cast-v-in-loop-k
@@ -43,38 +40,33 @@ overflow_cast-v-in-loop-k c = let edges-of : List ℕ = c.args.edges.now in
 pub overflow_sub-wanted : goal.overflow_sub-wanted
 overflow_sub-wanted c = let edges-of : List ℕ = c.args.edges.now in
     let ends_of : List ℕ = c.args.ends.now in
-    let end_is : (1 ≤ get_or ends_of (get_or edges-of c.loop-k.k 0 - 1) 0) × (get_or ends_of (get_or edges-of c.loop-k.k 0 - 1) 0 ≤ length c.loop-k.wanted) = let pre = c.requires in
-    rw (sub-one (get_or edges-of c.loop-k.k 0))
-    (pre.end_from c.loop-k.k (omega arith), omega (arith, pre.end_to c.loop-k.k (omega arith))) in
+    let end_is : (1 ≤ get_or ends_of (get_or edges-of c.loop-k.k 0 - 1) 0) × (get_or ends_of (get_or edges-of c.loop-k.k 0 - 1) 0 ≤ length c.loop-k.wanted) = rw (sub-one (get_or edges-of c.loop-k.k 0))
+    (c.requires.end_from c.loop-k.k (omega arith), omega (arith, c.requires.end_to c.loop-k.k (omega arith))) in
     omega (arith, end_is)
 
 pub offset_bounds-wanted-v : goal.offset_bounds-wanted-v
 offset_bounds-wanted-v c = let edges-of : List ℕ = c.args.edges.now in
     let ends_of : List ℕ = c.args.ends.now in
-    let end_is : (1 ≤ get_or ends_of (get_or edges-of c.loop-k.k 0 - 1) 0) × (get_or ends_of (get_or edges-of c.loop-k.k 0 - 1) 0 ≤ length c.loop-k.wanted) = let pre = c.requires in
-    rw (sub-one (get_or edges-of c.loop-k.k 0))
-    (pre.end_from c.loop-k.k (omega arith), omega (arith, pre.end_to c.loop-k.k (omega arith))) in
+    let end_is : (1 ≤ get_or ends_of (get_or edges-of c.loop-k.k 0 - 1) 0) × (get_or ends_of (get_or edges-of c.loop-k.k 0 - 1) 0 ≤ length c.loop-k.wanted) = rw (sub-one (get_or edges-of c.loop-k.k 0))
+    (c.requires.end_from c.loop-k.k (omega arith), omega (arith, c.requires.end_to c.loop-k.k (omega arith))) in
     omega (arith, end_is)
 
 pub bounds-wanted-v : goal.bounds-wanted-v
 bounds-wanted-v c = let edges-of : List ℕ = c.args.edges.now in
     let ends_of : List ℕ = c.args.ends.now in
-    let end_is : (1 ≤ get_or ends_of (get_or edges-of c.loop-k.k 0 - 1) 0) × (get_or ends_of (get_or edges-of c.loop-k.k 0 - 1) 0 ≤ length c.loop-k.wanted) = let pre = c.requires in
-    rw (sub-one (get_or edges-of c.loop-k.k 0))
-    (pre.end_from c.loop-k.k (omega arith), omega (arith, pre.end_to c.loop-k.k (omega arith))) in
+    let end_is : (1 ≤ get_or ends_of (get_or edges-of c.loop-k.k 0 - 1) 0) × (get_or ends_of (get_or edges-of c.loop-k.k 0 - 1) 0 ≤ length c.loop-k.wanted) = rw (sub-one (get_or edges-of c.loop-k.k 0))
+    (c.requires.end_from c.loop-k.k (omega arith), omega (arith, c.requires.end_to c.loop-k.k (omega arith))) in
     omega (arith, end_is)
 
 pub loop-k-preserved : goal.loop-k-preserved
 loop-k-preserved c = let edges-of : List ℕ = c.args.edges.now in
     let ends_of : List ℕ = c.args.ends.now in
-    let end_is : (1 ≤ get_or ends_of (get_or edges-of c.loop-k.k 0 - 1) 0) × (get_or ends_of (get_or edges-of c.loop-k.k 0 - 1) 0 ≤ length c.loop-k.wanted) = let pre = c.requires in
-    rw (sub-one (get_or edges-of c.loop-k.k 0))
-    (pre.end_from c.loop-k.k (omega arith), omega (arith, pre.end_to c.loop-k.k (omega arith))) in
-    let loop = c.loop-k in
+    let end_is : (1 ≤ get_or ends_of (get_or edges-of c.loop-k.k 0 - 1) 0) × (get_or ends_of (get_or edges-of c.loop-k.k 0 - 1) 0 ≤ length c.loop-k.wanted) = rw (sub-one (get_or edges-of c.loop-k.k 0))
+    (c.requires.end_from c.loop-k.k (omega arith), omega (arith, c.requires.end_to c.loop-k.k (omega arith))) in
     let end = end_is in
-    let at : get_or c.args.ends.now (get_or c.args.edges.now loop.k 0 - 1) 0 - 1 ≡ pred (end_of c.args.ends.now c.args.edges.now loop.k) =
+    let at : get_or c.args.ends.now (get_or c.args.edges.now c.loop-k.k 0 - 1) 0 - 1 ≡ pred (end_of c.args.ends.now c.args.edges.now c.loop-k.k) =
     sub-one _ ∙ ap (λ (i : ℕ). pred (get_or c.args.ends.now i 0)) (sub-one _) in
-    (simp length-set loop.invariant.0, omega arith, one-more-marked _ _ _ _ _ loop.invariant.2 _ at (omega arith))
+    (simp length-set c.loop-k.invariant.0, omega arith, one-more-marked _ _ _ _ _ c.loop-k.invariant.2 _ at (omega arith))
 
 pub returns : goal.returns
 returns c = let last : c.loop-k.k ≡ length c.args.edges.now = omega arith in rw (← last) c.loop-k.invariant.2

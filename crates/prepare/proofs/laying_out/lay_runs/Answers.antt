@@ -15,13 +15,11 @@ lay_sets-requires c = let set-count : c.greatest_set.result + 1 ≡ set_count c.
 pub cut_sets-requires : goal.cut_sets-requires
 unfolding set_count
 cut_sets-requires c = let set-count : c.greatest_set.result + 1 ≡ set_count c.args.sets.now = add-one _ ∙ ap suc c.greatest_set.ensures in
-    let laid = c.lay_sets in
     let count = set-count in
-    rw count (startable _ _ _ _ _ _ _ c.requires _ _ _ (rw count at laid.ensures.0) laid.auto.1.1.1.1.0 laid.auto.1.1.1.1.1.1.0)
+    rw count (startable _ _ _ _ _ _ _ c.requires _ _ _ (rw count at c.lay_sets.ensures.sets_laid) c.lay_sets.auto.laid_edges c.lay_sets.auto.starts)
 
 pub returns : goal.returns
 unfolding set_count
 returns c = let set-count : c.greatest_set.result + 1 ≡ set_count c.args.sets.now = add-one _ ∙ ap suc c.greatest_set.ensures in
-    let laid = c.lay_sets in
     let count = set-count in
-    let cut = c.cut_sets in record { runs_laid = runs-laid _ _ _ _ _ _ _ c.requires _ _ _ (rw count at laid.ensures.0) _ _ (rw count at cut.ensures.0); laid_kept = laid_kept _ _ _ _ _ _ _ c.requires (rw count at laid.ensures.1.0) (rw count at laid.ensures.1.1) (rw count at cut.ensures.1.0) (rw count at cut.ensures.1.1) }
+    record { runs_laid = runs-laid _ _ _ _ _ _ _ c.requires _ _ _ (rw count at c.lay_sets.ensures.sets_laid) _ _ (rw count at c.cut_sets.ensures.sets_cut); laid_kept = laid_kept _ _ _ _ _ _ _ c.requires (rw count at c.lay_sets.ensures.kept_from.0) (rw count at c.lay_sets.ensures.kept_from.1) (rw count at c.cut_sets.ensures.kept_from.0) (rw count at c.cut_sets.ensures.kept_from.1) }

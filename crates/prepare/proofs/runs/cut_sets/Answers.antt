@@ -18,27 +18,24 @@ pub overflow_cast-starts-in-loop-s : goal.overflow_cast-starts-in-loop-s
 overflow_cast-starts-in-loop-s c = omega (arith, c.type_inv.starts (c.loop-s.s + 1))
 
 pub cut-runs-requires : goal.cut-runs-requires
-cut-runs-requires c = let loop = c.loop-s in
-    set-cuttable _ _ _ _ _ c.requires _ _ _ _ (loop.invariant.0 ∙ simp length-set) (loop.invariant.1 ∙ simp length-set) loop.invariant.3 loop.invariant.4 (omega arith)
+cut-runs-requires c = set-cuttable _ _ _ _ _ c.requires _ _ _ _ (c.loop-s.invariant.0 ∙ simp length-set) (c.loop-s.invariant.1 ∙ simp length-set) c.loop-s.invariant.3 c.loop-s.invariant.4 (omega arith)
 
 pub overflow_cast-set_runs : goal.overflow_cast-set_runs
-overflow_cast-set_runs c = let loop = c.loop-s in
-    omega (arith, few_runs _ _ _ _ _ c.requires _ _ _ _ (loop.invariant.0 ∙ simp length-set) (loop.invariant.1 ∙ simp length-set) loop.invariant.3 loop.invariant.4 (omega arith) _ _ c.cut-runs.ensures.cut_to)
+overflow_cast-set_runs c = omega (arith, few_runs _ _ _ _ _ c.requires _ _ _ _ (c.loop-s.invariant.0 ∙ simp length-set) (c.loop-s.invariant.1 ∙ simp length-set) c.loop-s.invariant.3 c.loop-s.invariant.4 (omega arith) _ _ c.cut-runs.ensures.cut_to)
 
 pub bounds-set_runs-s : goal.bounds-set_runs-s
 bounds-set_runs-s c = omega (arith, simp length-set at c.loop-s.invariant.1, c.requires.runs_room)
 
 pub loop-s-preserved : goal.loop-s-preserved
-loop-s-preserved c = let loop = c.loop-s in
-    let room : loop.s + 1 < length loop.set_runs = omega (arith, simp length-set at loop.invariant.1, c.requires.runs_room) in (
-      c.cut-runs.auto.bounds ∙ loop.invariant.0,
-      simp length-set (loop.invariant.1 ∙ simp length-set),
-      omega arith,
-      get_or-set_same loop.set_runs (loop.s + 1) c.cut-runs.result 0 room,
-      next-set _ _ _ _ _ c.requires _ _ _ _ (loop.invariant.0 ∙ simp length-set) (loop.invariant.1 ∙ simp length-set) loop.invariant.3 loop.invariant.4 (omega arith) _ _ c.cut-runs.ensures.cut_to,
-      kept_then (kept-later _ (omega (arith, c.cut-runs.ensures.cut_to.more)) loop.invariant.5) c.cut-runs.ensures.kept_from,
-      kept_set _ _ (omega arith) (kept-later _ (omega arith) loop.invariant.6),
-    )
+loop-s-preserved c = let room : c.loop-s.s + 1 < length c.loop-s.set_runs = omega (arith, simp length-set at c.loop-s.invariant.1, c.requires.runs_room) in (
+  c.cut-runs.auto.bounds ∙ c.loop-s.invariant.0,
+  simp length-set (c.loop-s.invariant.1 ∙ simp length-set),
+  omega arith,
+  get_or-set_same c.loop-s.set_runs (c.loop-s.s + 1) c.cut-runs.result 0 room,
+  next-set _ _ _ _ _ c.requires _ _ _ _ (c.loop-s.invariant.0 ∙ simp length-set) (c.loop-s.invariant.1 ∙ simp length-set) c.loop-s.invariant.3 c.loop-s.invariant.4 (omega arith) _ _ c.cut-runs.ensures.cut_to,
+  kept_then (kept-later _ (omega (arith, c.cut-runs.ensures.cut_to.more)) c.loop-s.invariant.5) c.cut-runs.ensures.kept_from,
+  kept_set _ _ (omega arith) (kept-later _ (omega arith) c.loop-s.invariant.6),
+)
 
 pub shape_of-bounds : goal.shape_of-bounds
 shape_of-bounds c = c.loop-s.invariant.0 ∙ simp length-set

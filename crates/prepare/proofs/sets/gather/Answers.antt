@@ -15,14 +15,12 @@ pub bounds-out-n : goal.bounds-out-n
 bounds-out-n c = omega (arith, room-left _ _ _ _ _ _ (omega arith) (omega arith) c.loop-k.invariant.2 c.if-sets-k.true)
 
 pub loop-k-preserved : goal.loop-k-preserved
-loop-k-preserved c = let inv = c.loop-k.invariant.2 in
-    let behind = c.loop-k.invariant.3 in
-    ⊎_elim
+loop-k-preserved c = ⊎_elim
     (λ w.
     let long : length c.if-sets-k.out ≡ length c.loop-k.out = ap length w.2 ∙ simp length-set in
-    let in-room = room-left _ _ _ _ _ _ (omega arith) (omega arith) inv w.0.taken in
-    (omega arith, omega arith, rw (w.2, w.3) (gather-takes _ _ _ _ _ _ (omega arith) (omega arith) inv w.0.taken (omega arith)), rw (w.2, w.3) (kept_set _ _ (omega arith) (kept-later _ (omega arith) behind))))
-    (λ w. (omega arith, omega (arith, ap length w.1), rw (w.1, w.2) (gather-passes _ _ _ _ _ _ (omega arith) (omega arith) inv w.0.left), rw (w.1, w.2) behind))
+    let in-room = room-left _ _ _ _ _ _ (omega arith) (omega arith) c.loop-k.invariant.2 w.0.taken in
+    (omega arith, omega arith, rw (w.2, w.3) (gather-takes _ _ _ _ _ _ (omega arith) (omega arith) c.loop-k.invariant.2 w.0.taken (omega arith)), rw (w.2, w.3) (kept_set _ _ (omega arith) (kept-later _ (omega arith) c.loop-k.invariant.3))))
+    (λ w. (omega arith, omega (arith, ap length w.1), rw (w.1, w.2) (gather-passes _ _ _ _ _ _ (omega arith) (omega arith) c.loop-k.invariant.2 w.0.left), rw (w.1, w.2) c.loop-k.invariant.3))
     c.if-sets-k.branch
 
 pub returns : goal.returns

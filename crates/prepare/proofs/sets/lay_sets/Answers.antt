@@ -14,48 +14,41 @@ pub loop-s-init : goal.loop-s-init
 loop-s-init c = (refl, refl, refl, omega arith, sym (start_first _), omega arith, none-laid _ _ _ _ _ c.args.starts.now (omega arith), kept-all _ _, kept-all _ _)
 
 pub lay_set-start-requires : goal.lay_set-start-requires
-lay_set-start-requires c = let loop = c.loop-s in
-    set-fits _ _ _ _ _ _ _ c.requires _ _ _ _ _ loop.invariant.0 loop.invariant.1 (loop.invariant.2 ∙ simp length-set) loop.invariant.4 loop.invariant.6 (omega arith)
+lay_set-start-requires c = set-fits _ _ _ _ _ _ _ c.requires _ _ _ _ _ c.loop-s.invariant.0 c.loop-s.invariant.1 (c.loop-s.invariant.2 ∙ simp length-set) c.loop-s.invariant.4 c.loop-s.invariant.6 (omega arith)
 
 pub overflow_add-start : goal.overflow_add-start
-overflow_add-start c = let loop = c.loop-s in
-    omega (
-      arith,
-      c.requires.few,
-      c.lay_set-start.ensures.set_laid.many,
-      set-end _ _ _ _ _ _ _ c.requires _ _ _ _ _ loop.invariant.0 loop.invariant.1 (loop.invariant.2 ∙ simp length-set) loop.invariant.4 loop.invariant.6 (omega arith),
-    )
+overflow_add-start c = omega (
+  arith,
+  c.requires.few,
+  c.lay_set-start.ensures.set_laid.many,
+  set-end _ _ _ _ _ _ _ c.requires _ _ _ _ _ c.loop-s.invariant.0 c.loop-s.invariant.1 (c.loop-s.invariant.2 ∙ simp length-set) c.loop-s.invariant.4 c.loop-s.invariant.6 (omega arith),
+)
 
 pub overflow_cast-starts : goal.overflow_cast-starts
-overflow_cast-starts c = let loop = c.loop-s in
-    omega (
-      arith,
-      c.requires.few,
-      c.lay_set-start.ensures.set_laid.many,
-      set-end _ _ _ _ _ _ _ c.requires _ _ _ _ _ loop.invariant.0 loop.invariant.1 (loop.invariant.2 ∙ simp length-set) loop.invariant.4 loop.invariant.6 (omega arith),
-    )
+overflow_cast-starts c = omega (
+  arith,
+  c.requires.few,
+  c.lay_set-start.ensures.set_laid.many,
+  set-end _ _ _ _ _ _ _ c.requires _ _ _ _ _ c.loop-s.invariant.0 c.loop-s.invariant.1 (c.loop-s.invariant.2 ∙ simp length-set) c.loop-s.invariant.4 c.loop-s.invariant.6 (omega arith),
+)
 
 pub bounds-starts-s : goal.bounds-starts-s
 bounds-starts-s c = omega (arith, simp length-set at c.loop-s.invariant.2, c.requires.starts_room)
 
 pub loop-s-preserved : goal.loop-s-preserved
-loop-s-preserved c = let end-within : c.loop-s.start + set_size c.args.sets.now c.loop-s.s ≤ start_of c.args.sets.now c.args.count = let start = c in
-    let loop = c.loop-s in
-    set-end _ _ _ _ _ _ _ start.requires _ _ _ _ _ loop.invariant.0 loop.invariant.1 (loop.invariant.2 ∙ simp length-set) loop.invariant.4 loop.invariant.6 (omega arith) in
-    let loop = c.loop-s in
-    let laid = c.lay_set-start in
+loop-s-preserved c = let end-within : c.loop-s.start + set_size c.args.sets.now c.loop-s.s ≤ start_of c.args.sets.now c.args.count = set-end _ _ _ _ _ _ _ c.requires _ _ _ _ _ c.loop-s.invariant.0 c.loop-s.invariant.1 (c.loop-s.invariant.2 ∙ simp length-set) c.loop-s.invariant.4 c.loop-s.invariant.6 (omega arith) in
     let end = end-within in (
-      same_len_mid loop.start (length loop.laid-edges - loop.start) loop.laid-edges laid.new.1.1.1.1.0 laid.auto.1.1.1.1.0 ∙ loop.invariant.0,
-      same_len_mid loop.start (length loop.laid-offsets - loop.start) loop.laid-offsets laid.new.1.1.1.1.1.0 laid.auto.1.1.1.1.1.0 ∙ loop.invariant.1,
-      simp length-set (loop.invariant.2 ∙ simp length-set),
+      same_len_mid c.loop-s.start (length c.loop-s.laid_edges - c.loop-s.start) c.loop-s.laid_edges c.lay_set-start.new.laid_edges c.lay_set-start.auto.laid_edges ∙ c.loop-s.invariant.0,
+      same_len_mid c.loop-s.start (length c.loop-s.laid_offsets - c.loop-s.start) c.loop-s.laid_offsets c.lay_set-start.new.laid_offsets c.lay_set-start.auto.laid_offsets ∙ c.loop-s.invariant.1,
+      simp length-set (c.loop-s.invariant.2 ∙ simp length-set),
       omega arith,
-      next_start _ _ _ _ _ _ _ c.requires _ _ _ _ _ loop.invariant.0 loop.invariant.1 (loop.invariant.2 ∙ simp length-set) loop.invariant.4 loop.invariant.6 (omega arith) _ _ _
-          laid.auto.1.1.1.1.0 laid.auto.1.1.1.1.1.0 laid.ensures.0,
-      omega (arith, laid.ensures.0.many),
-      next-laid _ _ _ _ _ _ _ c.requires _ _ _ _ _ loop.invariant.0 loop.invariant.1 (loop.invariant.2 ∙ simp length-set) loop.invariant.4 loop.invariant.6 (omega arith) _ _ _
-          laid.auto.1.1.1.1.0 laid.auto.1.1.1.1.1.0 laid.ensures.0,
-      part-behind loop.start laid.result loop.laid-edges (omega (arith, laid.ensures.0.many)) laid.auto.1.1.1.1.0 loop.invariant.7 laid.ensures.1.0,
-      part-behind loop.start laid.result loop.laid-offsets (omega (arith, laid.ensures.0.many)) laid.auto.1.1.1.1.1.0 loop.invariant.8 laid.ensures.1.1,
+      next_start _ _ _ _ _ _ _ c.requires _ _ _ _ _ c.loop-s.invariant.0 c.loop-s.invariant.1 (c.loop-s.invariant.2 ∙ simp length-set) c.loop-s.invariant.4 c.loop-s.invariant.6 (omega arith) _ _ _
+          c.lay_set-start.auto.laid_edges c.lay_set-start.auto.laid_offsets c.lay_set-start.ensures.set_laid,
+      omega (arith, c.lay_set-start.ensures.set_laid.many),
+      next-laid _ _ _ _ _ _ _ c.requires _ _ _ _ _ c.loop-s.invariant.0 c.loop-s.invariant.1 (c.loop-s.invariant.2 ∙ simp length-set) c.loop-s.invariant.4 c.loop-s.invariant.6 (omega arith) _ _ _
+          c.lay_set-start.auto.laid_edges c.lay_set-start.auto.laid_offsets c.lay_set-start.ensures.set_laid,
+      part-behind c.loop-s.start c.lay_set-start.result c.loop-s.laid_edges (omega (arith, c.lay_set-start.ensures.set_laid.many)) c.lay_set-start.auto.laid_edges c.loop-s.invariant.7 c.lay_set-start.ensures.kept_from.0,
+      part-behind c.loop-s.start c.lay_set-start.result c.loop-s.laid_offsets (omega (arith, c.lay_set-start.ensures.set_laid.many)) c.lay_set-start.auto.laid_offsets c.loop-s.invariant.8 c.lay_set-start.ensures.kept_from.1,
     )
 
 pub shape_of-starts : goal.shape_of-starts

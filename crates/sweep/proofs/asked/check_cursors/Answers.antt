@@ -9,10 +9,8 @@ returns-then-not-has_rooms c = no-rooms _ _ _ _ _ _ _ (sym c.has_rooms.ensures �
 
 pub returns-in-Refused : goal.returns-in-Refused
 returns-in-Refused c = let roomy = sym c.has_rooms.ensures ∙ c.if-not-has_rooms.false in
-    let a = c.args in
-    edges-refused (network a.nodes a.firsts.now a.seconds.now a.lengths.now) a.edges.now a.offsets.now a.edge1 a.edge2 a.positions.now a.moves.now roomy c.check_locations-named.ensures c.in-Refused.is
+    edges-refused (network c.args.nodes c.args.firsts.now c.args.seconds.now c.args.lengths.now) c.args.edges.now c.args.offsets.now c.args.edge1 c.args.edge2 c.args.positions.now c.args.moves.now roomy c.check_locations-named.ensures c.in-Refused.is
 
 pub returns : goal.returns
 returns c = let roomy = sym c.has_rooms.ensures ∙ c.if-not-has_rooms.false in
-    let a = c.args in
-    edges-accepted (network a.nodes a.firsts.now a.seconds.now a.lengths.now) a.edges.now a.offsets.now a.edge1 a.edge2 a.positions.now a.moves.now roomy c.check_locations-named.ensures c.in_default.is c.check_laid_out.ensures
+    edges-accepted (network c.args.nodes c.args.firsts.now c.args.seconds.now c.args.lengths.now) c.args.edges.now c.args.offsets.now c.args.edge1 c.args.edge2 c.args.positions.now c.args.moves.now roomy c.check_locations-named.ensures c.in_default.is c.check_laid_out.ensures

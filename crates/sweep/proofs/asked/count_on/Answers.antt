@@ -12,13 +12,12 @@ pub loop-k-init : goal.loop-k-init
 loop-k-init c = tally-none _ _
 
 pub overflow_add-count : goal.overflow_add-count
-overflow_add-count c = let here = c.loop-k in
-    omega (
-      arith,
-      tally-small (λ t. eqb t c.args.edge) c.args.edges.now here.count here.k here.invariant,
-      one-if-one (eqb (get_or c.args.edges.now here.k 0) c.args.edge),
-      c.one_if_equal-count.ensures,
-    )
+overflow_add-count c = omega (
+  arith,
+  tally-small (λ t. eqb t c.args.edge) c.args.edges.now c.loop-k.count c.loop-k.k c.loop-k.invariant,
+  one-if-one (eqb (get_or c.args.edges.now c.loop-k.k 0) c.args.edge),
+  c.one_if_equal-count.ensures,
+)
 
 pub loop-k-preserved : goal.loop-k-preserved
 loop-k-preserved c = tally-more _ _ _ _ _ c.loop-k.invariant (omega arith) c.one_if_equal-count.ensures

@@ -7,16 +7,13 @@ pub fall-requires : goal.fall-requires
 fall-requires c = omega arith
 
 pub returns-then-ys-position : goal.returns-then-ys-position
-returns-then-ys-position c = let a = c.args in
-    falls-on a.cursor a.long a.ys.now a.x a.position c.if-cursor.true c.reach-metres.ensures (omega (arith, c.if-ys-position.true)) c.fall.ensures
+returns-then-ys-position c = falls-on c.args.cursor c.args.long c.args.ys.now c.args.x c.args.position c.if-cursor.true c.reach-metres.ensures (omega (arith, c.if-ys-position.true)) c.fall.ensures
 
 pub fall-requires-then-cursor : goal.fall-requires-then-cursor
 fall-requires-then-cursor c = omega arith
 
 pub returns-then-cursor : goal.returns-then-cursor
-returns-then-cursor c = let a = c.args in
-    falls-on a.cursor a.long a.ys.now a.x a.position c.if-cursor.true c.reach-metres.ensures (omega (arith, c.if-ys-position.false)) c.fall-then-cursor.ensures
+returns-then-cursor c = falls-on c.args.cursor c.args.long c.args.ys.now c.args.x c.args.position c.if-cursor.true c.reach-metres.ensures (omega (arith, c.if-ys-position.false)) c.fall-then-cursor.ensures
 
 pub returns : goal.returns
-returns c = let a = c.args in
-    rises-on a.cursor a.long a.ys.now a.x a.position c.if-cursor.false c.reach-metres.ensures c.rise.ensures
+returns c = rises-on c.args.cursor c.args.long c.args.ys.now c.args.x c.args.position c.if-cursor.false c.reach-metres.ensures c.rise.ensures
