@@ -10,10 +10,7 @@ use borrow.Author.Rules.{rules}
 use Rattle.prepare.proofs.prepare.Goals as goal
 
 pub returns-in-Refused : goal.returns-in-Refused
-returns-in-Refused c = let refused = sym c.in-Refused.is in (
-  record { verdict = c.check_counts-verdict.ensures; prepared = λ e. not-accepted (refused ∙ c.check_counts-verdict.ensures ∙ e) },
-  (record { left = λ _ _ _. (refl, refl, refl, refl, refl) }, record { laid = λ e. not-accepted (refused ∙ e); table_kept = λ e. not-accepted (refused ∙ e) }),
-)
+returns-in-Refused c = let refused = sym c.in-Refused.is in record { ready = record { verdict = c.check_counts-verdict.ensures; prepared = λ e. not-accepted (refused ∙ c.check_counts-verdict.ensures ∙ e) }; left_on_refusal = record { left = λ _ _ _. (refl, refl, refl, refl, refl) }; surplus_kept = record { laid = λ e. not-accepted (refused ∙ e); table_kept = λ e. not-accepted (refused ∙ e) } }
 
 pub overflow_sub-bound : goal.overflow_sub-bound
 overflow_sub-bound c = let accepted : CountsAccepted (network c.args.nodes c.args.firsts.now c.args.seconds.now c.args.lengths.now) c.args.sets.now c.args.edges.now c.args.offsets.now c.args.thresholds.now c.args.room = counts-accepted _ _ _ _ _ _ (sym c.check_counts-verdict.ensures ∙ c.in_default.is) in
@@ -34,10 +31,11 @@ end_table-requires c = let accepted : CountsAccepted (network c.args.nodes c.arg
 
 pub returns : goal.returns
 unfolding greatest
-returns c = (
-  record {
+returns c = record {
+  ready = record {
     verdict = c.check_counts-verdict.ensures;
     prepared = λ _. prepared _ _ _ _ _ _ _ _ _ _ c.lay_runs.ensures.runs_laid (rw sub-one at c.end_table.ensures.ends_filled);
-  },
-  (record { left = λ _ _ e. not-accepted (sym e ∙ c.in_default.is) }, record { laid = λ _. c.lay_runs.ensures.laid_kept; table_kept = λ _. c.end_table.ensures.table_kept }),
-)
+  };
+  left_on_refusal = record { left = λ _ _ e. not-accepted (sym e ∙ c.in_default.is) };
+  surplus_kept = record { laid = λ _. c.lay_runs.ensures.laid_kept; table_kept = λ _. c.end_table.ensures.table_kept };
+}

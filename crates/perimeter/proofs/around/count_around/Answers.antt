@@ -15,11 +15,11 @@ overflow_cast-centre-2 c = omega (arith, c.type_inv.lengths c.args.edge)
 
 pub fill_row-requires : goal.fill_row-requires
 fill_row-requires c = let is = network-accepted _ c.requires.lengths_value in
-    (c.requires.lengths_value, (is.ends.first_is _ c.requires.edge_in_bounds.0, is.nodes_to))
+    record { lengths_value = c.requires.lengths_value; node = is.ends.first_is _ c.requires.edge_in_bounds.0; nodes_in_bounds = is.nodes_to }
 
 pub fill_row-requires-2 : goal.fill_row-requires-2
 fill_row-requires-2 c = let is = network-accepted _ c.requires.lengths_value in
-    (c.requires.lengths_value, (is.ends.second_is _ c.requires.edge_in_bounds.0, is.nodes_to))
+    record { lengths_value = c.requires.lengths_value; node = is.ends.second_is _ c.requires.edge_in_bounds.0; nodes_in_bounds = is.nodes_to }
 
 pub count_all-requires : goal.count_all-requires
 count_all-requires c = let is = network-accepted _ c.requires.lengths_value in

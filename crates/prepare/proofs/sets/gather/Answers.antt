@@ -1,11 +1,11 @@
 -- The values gathered, and those still to come, are all of the set's.
-use mathlib.Core.Logic.{⊎_elim}
 use mathlib.Core.Path.{◌≡◌, refl, ap, ◌∙◌}
 use Prim.Native.Nat.{◌-◌}
 use native.Mathlib.Omega.{arith}
 use lib.ListN.{length, length-set}
 use Rattle.prepare.proofs.Laws.Kept.{kept-all, kept-later, kept_set}
 use Rattle.prepare.proofs.Laws.Gathering.{gather-begins, room-left, gather-takes, gather-passes, gather-ends}
+use Rattle.prepare.proofs.sets.gather.Goals.{then-sets-k, else-sets-k}
 use Rattle.prepare.proofs.sets.gather.Goals as goal
 
 pub loop-k-init : goal.loop-k-init
@@ -15,13 +15,23 @@ pub bounds-out-n : goal.bounds-out-n
 bounds-out-n c = omega (arith, room-left _ _ _ _ _ _ (omega arith) (omega arith) c.loop-k.invariant.2 c.if-sets-k.true)
 
 pub loop-k-preserved : goal.loop-k-preserved
-loop-k-preserved c = ⊎_elim
-    (λ w.
-    let long : length c.if-sets-k.out ≡ length c.loop-k.out = ap length w.2 ∙ simp length-set in
-    let in-room = room-left _ _ _ _ _ _ (omega arith) (omega arith) c.loop-k.invariant.2 w.0.taken in
-    (omega arith, omega arith, rw (w.2, w.3) (gather-takes _ _ _ _ _ _ (omega arith) (omega arith) c.loop-k.invariant.2 w.0.taken (omega arith)), rw (w.2, w.3) (kept_set _ _ (omega arith) (kept-later _ (omega arith) c.loop-k.invariant.3))))
-    (λ w. (omega arith, omega (arith, ap length w.1), rw (w.1, w.2) (gather-passes _ _ _ _ _ _ (omega arith) (omega arith) c.loop-k.invariant.2 w.0.left), rw (w.1, w.2) c.loop-k.invariant.3))
-    c.if-sets-k.branch
+loop-k-preserved c =
+    elim c.if-sets-k.branch [
+      | then-sets-k w ↦
+          let long : length c.if-sets-k.out ≡ length c.loop-k.out = ap length w.out-is ∙ simp length-set in
+          let in-room = room-left _ _ _ _ _ _ (omega arith) (omega arith) c.loop-k.invariant.2 w.if-sets-k.true in (
+            omega arith,
+            omega arith,
+            rw (w.out-is, w.n-is) (gather-takes _ _ _ _ _ _ (omega arith) (omega arith) c.loop-k.invariant.2 w.if-sets-k.true (omega arith)),
+            rw (w.out-is, w.n-is) (kept_set _ _ (omega arith) (kept-later _ (omega arith) c.loop-k.invariant.3)),
+          )
+      | else-sets-k w ↦ (
+        omega arith,
+        omega (arith, ap length w.out-is),
+        rw (w.out-is, w.n-is) (gather-passes _ _ _ _ _ _ (omega arith) (omega arith) c.loop-k.invariant.2 w.if-sets-k.false),
+        rw (w.out-is, w.n-is) c.loop-k.invariant.3,
+      )
+    ]
 
 pub returns : goal.returns
 returns c = record { gathered = gather-ends _ _ _ _ _ _ (omega arith) c.loop-k.invariant.2; kept_from = c.loop-k.invariant.3 }
