@@ -1,0 +1,12 @@
+-- By the flag.
+use Rattle.std.proofs.Common.{add-one}
+use Rattle.counting.specs.Runs.{partners}
+use Rattle.counting.proofs.runs.partners_to.Goals as goal
+
+pub returns-then-own : goal.returns-then-own
+unfolding partners
+returns-then-own c = simp (c.if-own.true, add-one)
+
+pub returns-else-own : goal.returns-else-own
+unfolding partners
+returns-else-own c = simp c.if-own.false
