@@ -1,4 +1,4 @@
-/* The proved library from C: link target/staticlib/libexports.a (made by `rt staticlib exports`).
+/* The proved library from C: link crates/exports/out/libexports.a (made by `rt lib` in crates/exports).
    Pointers must not be null (for an empty list any non-null pointer serves) and lists must not overlap.
    A leg may join a node to itself: then offset 0 and its full length are one place, the node.
    A refusal's number and place are told through number and place, 0 and 0 where nothing is refused; see README.md.

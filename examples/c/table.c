@@ -1,7 +1,7 @@
 /* Lays out the observed reports, counts pairs and prints the table of observed, least and greatest.
 
-   From the repository's folder, after `rt staticlib exports`:
-     gcc -std=c99 -Iinclude examples/c/table.c target/staticlib/libexports.a -o table && ./table */
+   From the repository's folder, after `(cd crates/exports && rt lib)`:
+     gcc -std=c99 -Iinclude examples/c/table.c crates/exports/out/libexports.a -o table && ./table */
 #include <stdio.h>
 
 #include "zanwethol.h"

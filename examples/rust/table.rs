@@ -1,8 +1,8 @@
 //! Lays out the observed reports, counts pairs and prints the table of
 //! observed, least and greatest.
 //!
-//! From the repository's folder, after `rt staticlib exports`:
-//!   rustc -O -L target/staticlib -l static=exports examples/rust/table.rs -o table && ./table
+//! From the repository's folder, after `(cd crates/exports && rt lib)`:
+//!   rustc -O -L crates/exports/out -l static=exports examples/rust/table.rs -o table && ./table
 
 extern "C" {
     fn kc_lay_out(

@@ -1,5 +1,5 @@
 -- Edges as arcs: the edge at index i is arc 2 i from its first node to its second, and arc 2 i + 1 back.
-use Rattle.std.specs.Prelude.{cond, List, ◌≡◌, ℕ, zero, suc, ◌+◌, ◌*◌, ◌/◌, ◌%◌, ◌<◌, ◌≤◌, eqb, length, get_or}
+use Rattle.std.specs.Prelude.{cond, List, ◌≡◌, ℕ, zero, suc, ◌/◌, ◌%◌, ◌<◌, ◌≤◌, eqb, length, get_or}
 
 -- where arc a begins; with the lists swapped, where it ends
 unfoldable pub tail : List ℕ → List ℕ → ℕ → ℕ

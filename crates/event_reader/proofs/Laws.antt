@@ -9,7 +9,7 @@ use Rattle.model.proofs.Laws.Refusal.{both-accepted, or-else-next, below-good, u
 use Rattle.model.proofs.Laws.CheckParts.{same-length-accepts}
 use Rattle.model.specs.Checks.{network_check, network_lists, network_values, set_lists, event_lists, set_numbers_check, event_edges_check, event_offsets_check, event_count_check, event_values, equal_sets_check, sets_over_network_check}
 use Rattle.model.specs.Limits.{max_events}
-use Rattle.model.specs.Network.{Network, edges}
+use Rattle.model.specs.Network.{Network}
 use Rattle.model.specs.Refusal.{bad_set, no_edge, beyond_edge, too_many_events}
 use Rattle.model.specs.declared.check.Check.TheVariants.{Accepted}
 use Rattle.text.specs.EventText.{Row, EventState, before_header, rows, event_step, event_end, event_lines, row}

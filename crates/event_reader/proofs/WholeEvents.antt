@@ -18,7 +18,7 @@ use Rattle.text.specs.Reading.{read, refused_at, length_check}
 use Rattle.text.specs.declared.fields.Numbers.{Numbers}
 use Rattle.text.specs.declared.fields.Numbers.TheVariants.{Nothing, One, Two, Three}
 use Rattle.validate.specs.Part.{with_lengths}
-use Rattle.reading.specs.Answers.{check_of, list_in, list_answer, entries, rooms_check, AnsweredThree}
+use Rattle.reading.specs.Answers.{check_of, list_in, list_answer, entries, AnsweredThree}
 use Rattle.text.specs.Parallel.{Level}
 use Rattle.reading.specs.declared.answers.ReadList.{ReadList}
 use Rattle.reading.specs.declared.answers.ReadList.TheVariants as list-answer

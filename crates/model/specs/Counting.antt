@@ -1,7 +1,7 @@
 -- Sums, counts and membership over the numbers below a bound and over lists, equal entries in a row, and what several stretches of
 -- places cover.
 use Rattle.std.specs.Prelude.{Bool, true, false, cond, ℕ, zero, suc, ◌+◌, ◌-◌, min, max, eqb, drop, get_or}
-use mathlib.Core.List.{List, [], ◌∷◌, ◌++◌, Memᴰ}
+use mathlib.Core.List.{List, [], ◌∷◌, Memᴰ}
 
 -- f 0 + f 1 + .. + f (n - 1)
 unfoldable pub sum_below : ℕ → (ℕ → ℕ) → ℕ

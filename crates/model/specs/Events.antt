@@ -1,5 +1,5 @@
 -- Events (01: reports), the events of one set, and the order in which they are laid out.
-use Rattle.std.specs.Prelude.{Bool, true, false, cond, ◌&&◌, ◌||◌, List, [], ◌∷◌, ◌≡◌, ℕ, zero, suc, pred, ◌+◌, ◌≤◌, ◌<◌, max, eqb, leb, ltb}
+use Rattle.std.specs.Prelude.{Bool, false, cond, ◌&&◌, ◌||◌, List, [], ◌∷◌, ◌≡◌, ℕ, suc, pred, ◌≤◌, max, eqb, ltb}
 use Rattle.model.specs.Network.{Network, edges, size}
 use Rattle.model.specs.Location.{Location, location_of}
 use Rattle.model.specs.Counting.{count_if}

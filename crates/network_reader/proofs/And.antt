@@ -1,6 +1,6 @@
 -- Tests made one after the other are one test.
 use mathlib.Core.Bool.{Bool, true, false, ◌&&◌}
-use mathlib.Core.Path.{◌≡◌, refl}
+use mathlib.Core.Path.{◌≡◌}
 
 -- the first fails
 pub and-fails : {a : Bool} (b : Bool) → a ≡ false → false ≡ (a && b)

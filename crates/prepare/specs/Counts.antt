@@ -1,5 +1,5 @@
 -- The counts of all sets at all thresholds, as every method hands them out: set by set, and under each set threshold by threshold.
-use Rattle.std.specs.Prelude.{List, [], ◌∷◌, ◌++◌, map, ◌≡◌, ℕ, zero, suc, ◌*◌, leb, length}
+use Rattle.std.specs.Prelude.{List, [], ◌++◌, map, ◌≡◌, ℕ, zero, suc, ◌*◌, leb, length}
 use Rattle.model.specs.Answer.{written}
 use Rattle.model.specs.Checks.{network_lists, set_lists, network_values, set_numbers_check, event_values, equal_sets_check, thresholds_check}
 use Rattle.model.specs.Envelope.{count_of_set}

@@ -1,9 +1,9 @@
 -- What the methods start from: the sets one after the other, each laid out, cut into runs of events on one edge,
 -- and the leg-end distances bounded by the greatest threshold.
-use Rattle.std.specs.Prelude.{List, [], ◌∷◌, ◌++◌, map, ◌≡◌, ℕ, zero, suc, pred, ◌+◌, ◌*◌, ◌≤◌, ◌<◌, length, get_or, take, drop}
+use Rattle.std.specs.Prelude.{List, [], ◌++◌, map, ◌≡◌, ℕ, zero, suc, pred, ◌+◌, ◌*◌, ◌≤◌, ◌<◌, length, get_or, take, drop}
 use Rattle.model.specs.Counting.{sum_below}
 use Rattle.model.specs.Distance.{code}
-use Rattle.model.specs.Events.{Event, event, events, having, sorted, set_size, set_count}
+use Rattle.model.specs.Events.{Event, events, having, sorted, set_size, set_count}
 use Rattle.model.specs.Network.{Network, IsNode, first, second}
 use Rattle.model.specs.NodeDistance.{bounded_distance}
 use Rattle.model.specs.declared.check.Check.{Check}

@@ -1,5 +1,5 @@
 -- What the printing functions answer and leave in the list of bytes.
-use Rattle.std.specs.Prelude.{Bool, true, false, List, [], ◌∷◌, ◌++◌, ◌≡◌, ℕ, zero, suc, length, get_or}
+use Rattle.std.specs.Prelude.{Bool, true, false, List, [], ◌++◌, ◌≡◌, ℕ, zero, suc, length, get_or}
 use Rattle.model.specs.Answer.{written}
 use Rattle.model.specs.Checks.{same_length_of, room_check, thresholds_check}
 use Rattle.model.specs.Envelope.{Envelope, no_value, between}

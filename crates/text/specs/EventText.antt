@@ -1,5 +1,5 @@
 -- A report text (CSV, header `set,leg,offset`): what each line does and what the whole text comes to, over a lent network.
-use Rattle.std.specs.Prelude.{Bool, true, false, cond, List, [], ◌∷◌, ◌++◌, map, ℕ, suc, pred, leb, ltb, length}
+use Rattle.std.specs.Prelude.{List, [], ◌∷◌, ◌++◌, ℕ, pred, leb, ltb, length}
 use Rattle.model.specs.Limits.{max_set, max_events}
 use Rattle.model.specs.Network.{Network, edges, size}
 use Rattle.model.specs.Refusal.{is_between_of, bad_set, no_edge, beyond_edge, too_many_events}

@@ -1,5 +1,5 @@
 -- A line's fields, and the lines that hold one, two or three numbers.
-use Rattle.std.specs.Prelude.{Bool, true, false, cond, ◌&&◌, List, [], ◌∷◌, ℕ, eqb, length, take, drop}
+use Rattle.std.specs.Prelude.{Bool, true, false, cond, ◌&&◌, List, [], ◌∷◌, ℕ, eqb, length, take}
 use Rattle.text.specs.Lines.{in_front}
 use Rattle.text.specs.Numbers.{number_of}
 use Rattle.text.specs.declared.number.Number.{Number}

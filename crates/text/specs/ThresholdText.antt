@@ -1,5 +1,5 @@
 -- A threshold text (CSV, header `threshold`): what each line does and what the whole text comes to.
-use Rattle.std.specs.Prelude.{Bool, true, false, cond, List, [], ◌∷◌, ◌++◌, ℕ, suc, ltb, length}
+use Rattle.std.specs.Prelude.{Bool, true, List, [], ◌∷◌, ◌++◌, ℕ, suc, ltb, length}
 use Rattle.model.specs.Limits.{max_thresholds}
 use Rattle.model.specs.Refusal.{bad_thresholds, not_rising}
 use Rattle.text.specs.Fields.{comma, fields, same_bytes_of, numbers_in}

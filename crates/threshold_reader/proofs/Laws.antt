@@ -22,7 +22,6 @@ use Rattle.text.specs.Reading.{taken, Outcome, read, refused_at, read_lines, no_
 use Rattle.text.specs.ThresholdText.{ThresholdState, before_header, values, above_last, take_threshold_of, take_number_of, threshold_step, threshold_end, threshold_lines}
 use Rattle.text.specs.declared.fields.Numbers.{Numbers}
 use Rattle.text.specs.declared.fields.Numbers.TheVariants.{Nothing, One, Two, Three}
-use Rattle.reading.specs.Answers.{check_of}
 use Rattle.reading.proofs.Laws.Answers.{list_read}
 use Rattle.reading.proofs.Laws.Kept.{all-kept}
 use Rattle.reading.proofs.Require.{passed}

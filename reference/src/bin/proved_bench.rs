@@ -16,7 +16,7 @@ mod library;
 
 #[cfg(not(proved))]
 fn main() {
-    println!("set KC_LIB to the folder of libexports.a (rt staticlib exports) and build anew");
+    println!("set KC_LIB to the folder of libexports.a (rt lib in crates/exports) and build anew");
 }
 
 #[cfg(proved)]
@@ -261,7 +261,7 @@ mod bench {
     /// by the least times, which other work on the machine changes less.
     pub fn gathered() -> io::Result<()> {
         let Some(program) = std::env::var_os("KC_PROGRAM").filter(|path| !path.is_empty()) else {
-            println!("set KC_PROGRAM to the path of the proved program (rt check kcount)");
+            println!("set KC_PROGRAM to the path of the proved program (rt run in crates/kcount)");
             return Ok(());
         };
         let program = fs::canonicalize(program)?;

@@ -1,5 +1,5 @@
 -- The loop over the sets: what stands fixed while it runs, and the row that each turn writes.
-use Rattle.std.proofs.Common.{◌≡◌, ℕ, suc, ◌+◌, ◌-◌, ◌*◌, ◌<◌, ◌≤◌, List, length, get_or, sym, refl, ap, ◌∙◌, ⊎_elim, mul-le-mul_right, suc-mul, eq-or-lt_of_le, add-one, arith}
+use Rattle.std.proofs.Common.{◌≡◌, ℕ, suc, ◌+◌, ◌*◌, ◌<◌, ◌≤◌, List, length, get_or, sym, refl, ap, ◌∙◌, ⊎_elim, mul-le-mul_right, suc-mul, eq-or-lt_of_le, add-one, arith}
 use borrow.Rule.Slice.PartMut.{put_mid}
 use lib.ListN.{length-map}
 use Rattle.model.proofs.Laws.Answer.{written_is, written-refused}

@@ -1,5 +1,5 @@
 -- The runs of a set, each with itself or with the earlier ones, added one after the other; and both together are all pairs of the set.
-use Rattle.std.proofs.Common.{◌≡◌, ℕ, suc, ◌+◌, ◌-◌, ◌*◌, ◌<◌, ◌≤◌, Bool, true, false, cond, List, length, get_or, sym, refl, ap, ◌∙◌, add-zero, arith}
+use Rattle.std.proofs.Common.{◌≡◌, ℕ, suc, ◌+◌, ◌-◌, ◌*◌, ◌≤◌, Bool, true, false, List, length, get_or, refl, ap, ◌∙◌, arith}
 use Rattle.model.proofs.Laws.Counting.{sum-below-cong, sum-below-add}
 use Rattle.model.specs.Counting.{sum_below}
 use Rattle.model.specs.Network.{Network}

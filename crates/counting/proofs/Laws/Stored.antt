@@ -1,5 +1,5 @@
 -- Numbers stored run by run: a run that is put back leaves the others as they were.
-use Rattle.std.proofs.Common.{◌≡◌, ℕ, suc, ◌+◌, ◌-◌, ◌<◌, ◌≤◌, List, ◌++◌, length, get_or, take, drop, sym, refl, ap, ◌∙◌, ⊎_elim, eq-or-lt_of_le, add-one, arith, length-append, length-drop, length-take, length-take-le, take_at, drop_at}
+use Rattle.std.proofs.Common.{◌≡◌, ℕ, suc, ◌+◌, ◌-◌, ◌<◌, ◌≤◌, List, length, get_or, take, drop, sym, refl, ap, ◌∙◌, ⊎_elim, eq-or-lt_of_le, add-one, arith}
 use borrow.Rule.Slice.PartMut.{put_mid, take_put, same_len_mid}
 use Rattle.model.proofs.Laws.Pieces.{part_length, rise}
 use Rattle.model.specs.Limits.{max_events}

@@ -6,11 +6,11 @@ use Rattle.model.proofs.Laws.Arrival.{by-arrival}
 use Rattle.model.proofs.Laws.Counting.{sum-below-cong, sum-below-zero}
 use Rattle.model.proofs.Laws.Cover.{all_pass, none_pass}
 use Rattle.model.specs.Counting.{sum_below}
-use Rattle.model.specs.Distance.{metres, plus, within, decode, difference}
+use Rattle.model.specs.Distance.{plus, within, decode, difference}
 use Rattle.model.specs.Location.{Side, at_first, at_second, gap, reaches}
 use Rattle.edge_pair.proofs.Laws.Ways.{way-none, way-some}
 use Rattle.edge_pair.specs.Edges.{code_between_of, distance_between}
-use Rattle.edge_pair.specs.Ways.{far, way, to_end_of, shortest_route_of, greatest_distance_of}
+use Rattle.edge_pair.specs.Ways.{way, to_end_of, shortest_route_of, greatest_distance_of}
 use Rattle.edge_pair.specs.Offsets.{OnEdge}
 use Rattle.edge_pair.specs.Within.{reached_by, is_reached, reached_pairs}
 use Rattle.edge_pair.specs.declared.edges.EdgePair.{EdgePair}

@@ -1,5 +1,5 @@
 -- Totals that are alike in 64 bits, and what is added to them one after the other.
-use Rattle.std.proofs.Common.{◌≡◌, ℕ, zero, suc, ◌+◌, ◌-◌, ◌*◌, ◌/◌, ◌%◌, ◌<◌, ◌≤◌, cond, leb, List, length, get_or, set, sym, refl, ap, ◌∙◌, div-add-mod', arith, length-set, get_or-set_other, get_or-set_same, le-leb}
+use Rattle.std.proofs.Common.{◌≡◌, ℕ, zero, suc, ◌+◌, ◌/◌, ◌%◌, ◌<◌, ◌≤◌, cond, leb, List, length, get_or, set, sym, refl, ap, ◌∙◌, div-add-mod', arith, length-set, get_or-set_other, get_or-set_same, le-leb}
 use native.Mathlib.Decide.{ℕ_discrete, dec_lt, dec_le}
 use borrow.Author.Tests.{lt-leb}
 use Rattle.model.specs.Counting.{sum_below}

@@ -1,16 +1,16 @@
 -- Where the events on an edge begin and end in a laid-out list, from two counts.
 use mathlib.Core.List.{List, []}
 use mathlib.Core.Path.{◌≡◌, ◌∙◌, sym, ap, ap₂}
-use Prim.Native.Nat.{ℕ, suc, ◌+◌, ◌≤◌, ◌<◌}
+use Prim.Native.Nat.{ℕ, suc, ◌+◌, ◌≤◌}
 use native.Mathlib.Numerals.{add-one}
 use native.Mathlib.Omega.{arith}
-use borrow.Author.Tests.{leb-true, le-leb, ltb-true, lt-ltb}
+use borrow.Author.Tests.{le-leb, ltb-true}
 use lib.Dec.{ltb, leb, leb-suc-suc}
 use lib.ListN.{length}
 use Rattle.model.proofs.Laws.Checks.{laid-out-accepted}
 use Rattle.model.proofs.Laws.Counting.{count-cong, count-mono, count-at-most}
 use Rattle.model.proofs.Laws.Pieces.{part}
-use Rattle.model.proofs.Laws.Stretch.{before-edge, through-edge, having-part, laid-out-rise}
+use Rattle.model.proofs.Laws.Stretch.{through-edge, having-part, laid-out-rise}
 use Rattle.model.specs.Checks.{laid_out_check}
 use Rattle.model.specs.Counting.{count_if}
 use Rattle.model.specs.Events.{having}

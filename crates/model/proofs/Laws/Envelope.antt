@@ -4,7 +4,7 @@ use mathlib.Core.Path.{◌≡◌, refl, subst}
 use Prim.Native.Nat.{ℕ, ◌≤◌, min, max}
 use native.Mathlib.Decide.{dec_le}
 use native.Mathlib.Omega.{arith}
-use Rattle.model.specs.Envelope.{Envelope, no_value, between, widen, envelope_of, Encloses, nothing, through_ends}
+use Rattle.model.specs.Envelope.{Envelope, widen, envelope_of, Encloses, nothing, through_ends}
 
 -- the lesser, or the greater, of a new count and an old end is one of all the counts
 lesser-in : (n lower : ℕ) (ns : List ℕ) → Memᴰ lower ns → Memᴰ (min n lower) (n ∷ ns)

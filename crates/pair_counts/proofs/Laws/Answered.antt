@@ -2,7 +2,7 @@
 use mathlib.Core.Bool.{Bool, true, false}
 use mathlib.Core.List.{List}
 use mathlib.Core.Path.{◌≡◌, refl, sym, ap, ap₂, ◌∙◌}
-use Prim.Native.Nat.{ℕ, zero, suc, ◌+◌, ◌-◌, ◌*◌, ◌≤◌, ◌<◌, min}
+use Prim.Native.Nat.{ℕ, zero, suc, ◌+◌, ◌*◌, ◌≤◌, ◌<◌, min}
 use native.Mathlib.Numerals.{add-one}
 use native.Mathlib.Omega.{arith}
 use borrow.Author.Tests.{leb-true}
@@ -30,7 +30,7 @@ use Rattle.pair_counts.proofs.Laws.AskedSet.{set-bounds, edges-part, offsets-par
 use Rattle.pair_counts.proofs.Laws.Entries.{entry-joined}
 use Rattle.pair_counts.proofs.Laws.Taken.{cursors-accept}
 use Rattle.pair_counts.proofs.Laws.Verdict.{lowest-accepted, asked-accepted, room-accepted, roomier}
-use Rattle.pair_counts.specs.Asked.{bound_of, set_part, BoundAsked, SweepAsked, Counted}
+use Rattle.pair_counts.specs.Asked.{set_part, SweepAsked, Counted}
 use Rattle.pair_counts.specs.Claim.{lowest, on_edge_of, cursor_room, asked_check, claim_check, set_edges, set_offsets, AllJoined, PairCountsAnswered}
 
 -- a cursor's number as it is handed out

@@ -1,24 +1,22 @@
 -- The events of one set as they stand in the laid-out lists.
-use mathlib.Core.Bool.{Bool, true, false, cond}
+use mathlib.Core.Bool.{Bool, true, false}
 use mathlib.Core.List.{List, [], ◌∷◌, map}
 use mathlib.Core.Path.{◌≡◌, refl, sym, ap, ap₂, ◌∙◌}
-use Prim.Native.Nat.{ℕ, zero, suc, ◌+◌, ◌-◌, ◌≤◌, ◌<◌, max}
+use Prim.Native.Nat.{ℕ, zero, suc, ◌+◌, ◌-◌, ◌≤◌, ◌<◌}
 use native.Mathlib.Omega.{arith}
 use borrow.Author.Tests.{leb-true, leb-false, ne_eqb}
-use lib.Dec.{eqb, leb}
+use lib.Dec.{leb}
 use lib.ListN.{length, get_or, take, drop, length-map}
-use Rattle.model.proofs.Laws.Checks.{SetsAccepted, AreEvents}
+use Rattle.model.proofs.Laws.Checks.{SetsAccepted}
 use Rattle.model.proofs.Laws.Pieces.{part}
 use Rattle.model.proofs.Laws.Sorted.{sorted-in-order}
 use Rattle.model.specs.Counting.{count_if, one_if}
-use Rattle.model.specs.Events.{Event, event, events, having, sorted, InOrder, IsEvent, set_size, greatest_set_of, set_count}
+use Rattle.model.specs.Events.{Event, events, having, InOrder, set_size, greatest_set_of, set_count}
 use Rattle.model.specs.Network.{Network}
 use Rattle.prepare.proofs.Laws.Groups.{laid-out-length, start-next, starts-rise, events-total}
-use Rattle.prepare.proofs.Laws.InRuns.{run_count, bounds-rise, set-runs-rise}
-use Rattle.prepare.proofs.Laws.LaidEvents.{events-long, laid-is-event}
+use Rattle.prepare.proofs.Laws.LaidEvents.{events-long}
 use Rattle.prepare.proofs.Laws.RunEvents.{part-front, set-part, zipped}
-use Rattle.prepare.proofs.Laws.RunPairs.{part-of-length}
-use Rattle.prepare.specs.Prepared.{Prepared, laid_out_set, grouped, start_of}
+use Rattle.prepare.specs.Prepared.{Prepared, laid_out_set, grouped}
 use Rattle.pair_counts.specs.Asked.{SweepAsked, bound_of, set_part}
 use Rattle.pair_counts.specs.Claim.{set_edges, set_offsets}
 

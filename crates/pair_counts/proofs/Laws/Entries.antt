@@ -6,7 +6,7 @@ use lib.ListN.{length, get_or}
 use Rattle.model.proofs.Laws.PairCount.{counts-joined}
 use Rattle.model.specs.Answer.{written}
 use Rattle.model.specs.Envelope.{count_of_set}
-use Rattle.model.specs.Events.{Event, events, having, set_count}
+use Rattle.model.specs.Events.{Event, having, set_count}
 use Rattle.model.specs.Network.{Network, EndsAreNodes}
 use Rattle.model.specs.PairCount.{CountsJoined}
 use Rattle.model.specs.declared.check.Check.{Check}

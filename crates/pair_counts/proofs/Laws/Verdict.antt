@@ -1,19 +1,19 @@
 -- The verdict put together: the lowest number, then the lowest place.
 use mathlib.Core.Bool.{Bool, true, false, cond, ◌&&◌, ◌||◌}
 use mathlib.Core.List.{List}
-use mathlib.Core.Path.{◌≡◌, refl, sym, ap, ◌∙◌}
-use Prim.Native.Nat.{ℕ, ◌+◌, ◌*◌, ◌/◌, ◌≤◌, ◌<◌, min}
+use mathlib.Core.Path.{◌≡◌, refl, sym, ◌∙◌}
+use Prim.Native.Nat.{ℕ, ◌*◌, ◌/◌, ◌≤◌, ◌<◌}
 use native.Mathlib.Omega.{arith}
 use borrow.Author.Tests.{le-leb, lt-leb, lt-ltb, le-ltb, eq-eqb, ne_eqb, leb-true}
 use lib.Dec.{eqb, leb, ltb}
 use lib.ListN.{length}
 use Rattle.model.proofs.Laws.Refusal.{not-accepted, or-else-next, or-else-refused, both-accepted, unless-accepted, unless-accepts, unless-refuses}
 use Rattle.model.proofs.Laws.CheckParts.{same-length-accepts}
-use Rattle.model.specs.Checks.{same_length_of, room_check, lone_edge_check, sets_over_network_check, thresholds_check}
+use Rattle.model.specs.Checks.{same_length_of, room_check, lone_edge_check}
 use Rattle.model.specs.Events.{set_count}
 use Rattle.model.specs.Limits.{max_set}
 use Rattle.model.specs.Network.{Network, edges}
-use Rattle.model.specs.Refusal.{or_else, unless, is_between_of, lists_differ, bad_set, no_edge}
+use Rattle.model.specs.Refusal.{is_between_of, lists_differ, bad_set, no_edge}
 use Rattle.model.specs.declared.check.Check.{Check}
 use Rattle.model.specs.declared.check.Check.TheVariants.{Accepted, Refused}
 use Rattle.prepare.proofs.Laws.Verdict.{counts-accepted, with-room, quotient-test}

@@ -7,7 +7,7 @@ use lib.ListN.{length, get_or}
 use Rattle.model.proofs.Laws.Checks.{SetsAccepted}
 use Rattle.model.specs.Distance.{code}
 use Rattle.model.specs.Location.{Side, at_first, at_second, end_node}
-use Rattle.model.specs.Network.{Network, IsNode, edges}
+use Rattle.model.specs.Network.{Network, IsNode}
 use Rattle.model.specs.NodeDistance.{bounded_distance}
 use Rattle.prepare.specs.Prepared.{greatest, entry, Prepared}
 use Rattle.prepare.proofs.Laws.LaidEvents.{laid-among, laid-is-event}

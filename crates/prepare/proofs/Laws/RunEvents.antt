@@ -16,7 +16,7 @@ use Rattle.model.specs.Network.{Network}
 use Rattle.model.specs.PairCount.{event_distance}
 use Rattle.prepare.specs.Prepared.{laid_out_set, grouped, start_of, Prepared}
 use Rattle.prepare.proofs.Laws.Groups.{events-total, start-next, laid-out-length, grouped-length, set-slice}
-use Rattle.prepare.proofs.Laws.InRuns.{InSet, run_count, set-runs-rise, run_inside}
+use Rattle.prepare.proofs.Laws.InRuns.{run_count, set-runs-rise, run_inside}
 use Rattle.prepare.proofs.Laws.LaidEvents.{set-count, events-long}
 use Rattle.prepare.proofs.Laws.RunSums.{close_pairs, close-offsets, run-pairs}
 

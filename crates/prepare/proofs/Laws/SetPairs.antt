@@ -1,14 +1,12 @@
 -- What is prepared is what the loops over a set's runs read, and what they sum up is the set's row of the answer.
 use mathlib.Core.List.{List, map}
-use mathlib.Core.Path.{◌≡◌, refl, sym, ap, ap₂, ◌∙◌}
+use mathlib.Core.Path.{◌≡◌, sym, ap, ◌∙◌}
 use Prim.Native.Nat.{ℕ, suc, pred, ◌+◌, ◌-◌, ◌*◌, ◌≤◌, ◌<◌}
 use native.Mathlib.Decide.{dec_le}
 use native.Mathlib.Nat.{mul-le-mul}
 use native.Mathlib.Omega.{arith}
 use lib.ListN.{length, get_or}
 use Rattle.model.proofs.Laws.Checks.{SetsAccepted, ThresholdsAccepted, thresholds-rise}
-use Rattle.model.proofs.Laws.Counting.{sum-below-cong}
-use Rattle.model.specs.Counting.{sum_below}
 use Rattle.model.specs.Envelope.{count_of_set}
 use Rattle.model.specs.Events.{event, events, set_size, set_count}
 use Rattle.model.specs.Limits.{max_nodes, max_events, max_pairs}

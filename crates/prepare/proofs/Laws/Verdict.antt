@@ -10,11 +10,10 @@ use native.Mathlib.Nat.{le-div_iff_mul-le, mul_comm, lt_of_not-le, not-le_of_lt}
 use Rattle.model.proofs.Laws.CheckParts.{lists-first}
 use Rattle.model.proofs.Laws.Checks.{SetsAccepted, ThresholdsAccepted, sets-accepted, thresholds-accepted}
 use Rattle.model.proofs.Laws.Refusal.{or-else-next, or-else-refused, or-else-assoc, two-or-accepted, unless-accepts, unless-refuses, unless-accepted, both-accepted}
-use Rattle.model.specs.Checks.{same_length_of, event_lists, network_lists, set_lists, sets_over_network_check, network_values, set_numbers_check, event_values, equal_sets_check, thresholds_check}
+use Rattle.model.specs.Checks.{same_length_of, event_lists, set_lists, sets_over_network_check, network_values, set_numbers_check, event_values, equal_sets_check, thresholds_check}
 use Rattle.model.specs.Events.{set_count}
 use Rattle.model.specs.Network.{Network}
-use Rattle.model.specs.Refusal.{or_else, unless, lists_differ}
-use Rattle.model.specs.declared.check.Check.{Check}
+use Rattle.model.specs.Refusal.{or_else, lists_differ}
 use Rattle.model.specs.declared.check.Check.TheVariants.{Accepted, Refused}
 use Rattle.prepare.specs.Counts.{counts_check}
 

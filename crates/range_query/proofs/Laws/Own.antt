@@ -1,7 +1,7 @@
 -- The pairs of a run with itself: the events at one offset with each other, and twice with those before them.
 use mathlib.Core.Bool.{Bool, true, false, cond}
 use mathlib.Core.List.{List}
-use mathlib.Core.Path.{◌≡◌, refl, sym, ap, ◌∙◌}
+use mathlib.Core.Path.{◌≡◌, sym, ap, ◌∙◌}
 use Prim.Native.Nat.{ℕ, zero, suc, ◌+◌, ◌-◌, ◌*◌, ◌≤◌, ◌<◌, min}
 use native.Mathlib.Nat.{mul-add, add-mul, mul_assoc, mul-one, mul-zero}
 use native.Mathlib.Omega.{arith}
@@ -11,7 +11,6 @@ use lib.Seq.{get_or-take, length-take-le}
 use Rattle.model.specs.Counting.{sum_below, one_if, count_below_of, count_if}
 use Rattle.model.specs.Distance.{difference}
 use Rattle.model.specs.Limits.{max_thresholds}
-use Rattle.model.specs.Location.{at_first, at_second}
 use Rattle.model.proofs.Laws.Counting.{sum-below-cong, sum-below-add, count-below-cong, count-below-list}
 use Rattle.model.proofs.Laws.Equals.{Equals, sum-equals}
 use Rattle.edge_pair.specs.Edges.{code_between_of}

@@ -1,7 +1,7 @@
 -- Three lists of numbers side by side, and what a store to each of them does to the list of records.
 use mathlib.Core.List.{List, [], ◌∷◌, ◌++◌, map}
 use mathlib.Core.Path.{◌≡◌, refl, sym, ap, ◌∙◌}
-use Prim.Native.Nat.{ℕ, zero, suc, ◌+◌, ◌≤◌, ◌<◌}
+use Prim.Native.Nat.{ℕ, zero, suc, ◌≤◌, ◌<◌}
 use native.Mathlib.Omega.{arith}
 use lib.ListN.{length, take, set, get_or, length-set, length-map, get_or-map}
 use lib.Seq.{take-suc-set, ext_get_or, length-take-le}

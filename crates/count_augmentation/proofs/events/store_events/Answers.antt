@@ -1,5 +1,4 @@
 -- The events in front of the place reached are stored; each turn stores those of one edge.
-use Prim.Native.Nat.{◌-◌}
 use native.Mathlib.Omega.{arith}
 use Rattle.model.proofs.Laws.Equals.{Equals, equals-end}
 use Rattle.count_augmentation.proofs.Laws.Edges.{RunCut, nothing_stored, edge-cut, edge-stored, all-events}

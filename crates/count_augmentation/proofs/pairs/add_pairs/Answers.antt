@@ -1,6 +1,5 @@
 -- What is looked up for the events passed has been added.
 use mathlib.Core.Path.{◌≡◌, refl, sym}
-use Prim.Native.Nat.{◌-◌}
 use native.Mathlib.Omega.{arith}
 use lib.ListN.{length, get_or}
 use Rattle.model.proofs.Laws.Equals.{Equals, equals-end, sum-equals}

@@ -4,7 +4,6 @@ use Prim.Native.Nat.{ℕ, suc, ◌+◌, ◌-◌, min}
 use native.Mathlib.Nat.{le_trans}
 use native.Mathlib.Omega.{arith}
 use lib.ListN.{length}
-use Rattle.model.specs.Counting.{covered}
 use Rattle.model.specs.Location.{at_first, at_second}
 use Rattle.edge_pair.specs.Ways.{to_end_of}
 use Rattle.count_augmentation.specs.LookUp.{read_first, read_second, read_from, looked_around, looked_by_ends}

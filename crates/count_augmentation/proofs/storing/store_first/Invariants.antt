@@ -1,6 +1,6 @@
 -- One pass from the back: the places from k on are filled, and the number at hand is that of place k.
 use mathlib.Core.Path.{◌≡◌}
-use Prim.Native.Nat.{◌-◌, ◌≤◌, ◌<◌}
+use Prim.Native.Nat.{◌≤◌, ◌<◌}
 use lib.ListN.{length, get_or}
 use Rattle.edge_pair.specs.Offsets.{Ordered}
 use Rattle.count_augmentation.specs.Storing.{at_most}

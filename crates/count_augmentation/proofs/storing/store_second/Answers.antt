@@ -1,6 +1,6 @@
 -- One pass from the front: the places before k are filled, and the number at hand is that of the place before k.
 use mathlib.Core.Path.{◌≡◌, sym, ap, ◌∙◌}
-use Prim.Native.Nat.{ℕ, pred, ◌+◌, ◌-◌, ◌<◌}
+use Prim.Native.Nat.{ℕ, pred, ◌+◌, ◌<◌}
 use native.Mathlib.Omega.{arith}
 use borrow.Author.Rules.{rules}
 use lib.ListN.{length, get_or, length-set}

@@ -1,5 +1,5 @@
 -- From the place reached on no threshold is below; the one before it is, and so are all before that.
-use Prim.Native.Nat.{◌-◌, ◌≤◌}
+use Prim.Native.Nat.{◌≤◌}
 use lib.ListN.{length}
 use Rattle.count_augmentation.specs.Thresholds.{NotBelow}
 use Rattle.count_augmentation.proofs.thresholds.walk_down.Given as goal

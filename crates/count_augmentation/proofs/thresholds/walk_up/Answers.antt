@@ -1,5 +1,4 @@
 -- The thresholds passed are of no account: from the place reached on none is below, for they rise.
-use Prim.Native.Nat.{◌-◌}
 use native.Mathlib.Omega.{arith}
 use Rattle.count_augmentation.proofs.thresholds.walk_up.Goals as goal
 

@@ -1,5 +1,5 @@
 -- The entries passed are doubled.
-use Rattle.std.proofs.Common.{◌-◌, arith}
+use Rattle.std.proofs.Common.{arith}
 use Rattle.counting.proofs.Laws.Rows.{none-doubled, one-doubled, all-doubled}
 use Rattle.counting.proofs.rows.double.Goals as goal
 

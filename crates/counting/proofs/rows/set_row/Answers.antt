@@ -1,5 +1,5 @@
 -- After the two turns the totals are of all pairs, from which the row is written.
-use Rattle.std.proofs.Common.{◌-◌, sym, arith}
+use Rattle.std.proofs.Common.{sym, arith}
 use Rattle.counting.proofs.Laws.Rows.{no-turn, one-turn, row_is}
 use Rattle.counting.proofs.rows.set_row.Goals as goal
 

@@ -1,5 +1,5 @@
 -- The counts passed are written, and the total is that of the entries before.
-use Rattle.std.proofs.Common.{◌-◌, arith}
+use Rattle.std.proofs.Common.{arith}
 use Rattle.counting.proofs.Laws.Rows.{row-begins, row_more, row_done}
 use Rattle.counting.proofs.rows.write_row.Goals as goal
 

@@ -1,5 +1,5 @@
 -- The runs passed have been taken, each with its partners.
-use Rattle.std.proofs.Common.{◌-◌, arith}
+use Rattle.std.proofs.Common.{arith}
 use Rattle.counting.proofs.Laws.Each.{partners-rise, partners-end, none-taken, one-taken, all-taken}
 use Rattle.counting.proofs.runs.add_each.Goals as goal
 

@@ -1,5 +1,5 @@
 -- The pairs with the runs passed have been added.
-use Rattle.std.proofs.Common.{◌-◌, arith}
+use Rattle.std.proofs.Common.{arith}
 use Rattle.counting.proofs.Laws.Runs.{read, edge_in, edges-read, with_none, with-more, with-apart, with_all}
 use Rattle.counting.proofs.Laws.TwoEdges.{held-edge}
 use Rattle.counting.proofs.runs.add_with.Goals as goal

@@ -1,5 +1,5 @@
 -- The runs passed lie apart.
-use Rattle.std.proofs.Common.{◌-◌, arith}
+use Rattle.std.proofs.Common.{arith}
 use Rattle.counting.proofs.Laws.Runs.{apart_none, apart_more}
 use Rattle.counting.proofs.runs.next_near.Goals as goal
 

@@ -1,5 +1,5 @@
 -- The runs so far are stored; a run that is put back leaves the others as they were.
-use Rattle.std.proofs.Common.{◌-◌, arith}
+use Rattle.std.proofs.Common.{arith}
 use Rattle.counting.proofs.Laws.Stored.{RunCut, none-stored, run-few, as_long, run-cut, run-stored, all-stored}
 use Rattle.counting.proofs.stored.store_runs.Goals as goal
 

@@ -1,5 +1,4 @@
 -- `least_of_fours`: see proofs/Least.
-use Prim.Native.Nat.{◌-◌}
 use native.Mathlib.Omega.{arith}
 use borrow.Author.Rules.{rules}
 use Rattle.distance.proofs.Least.{no_key, join, ends_at}

@@ -1,6 +1,5 @@
 -- `pass`: proofs/Relaxing has what it keeps.
 use mathlib.Core.Path.{refl}
-use Prim.Native.Nat.{◌-◌}
 use native.Mathlib.Omega.{arith}
 use borrow.Author.Tests.{eqb-true}
 use Rattle.distance.proofs.Relaxing.{passing-none, passing-more, passing-few, passing-all}

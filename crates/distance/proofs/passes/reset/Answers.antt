@@ -1,6 +1,5 @@
 -- `reset` sweeps the list with the entry of a node that has not been reached.
 use mathlib.Core.Path.{refl}
-use Prim.Native.Nat.{◌-◌}
 use native.Mathlib.Omega.{arith}
 use lib.ListN.{get_or-eq_default}
 use Rattle.distance.proofs.Lists.{sweep-none, sweep-more}

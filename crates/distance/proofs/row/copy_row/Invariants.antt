@@ -1,7 +1,7 @@
 -- `copy_row`: the first k entries stand in front of the old ones.
 use mathlib.Core.List.{◌++◌}
 use mathlib.Core.Path.{◌≡◌}
-use Prim.Native.Nat.{◌+◌, ◌≤◌, ◌-◌}
+use Prim.Native.Nat.{◌≤◌, ◌-◌}
 use lib.ListN.{length, take, drop}
 use Rattle.distance.proofs.row.copy_row.Given as goal
 

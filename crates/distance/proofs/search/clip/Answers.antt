@@ -1,6 +1,5 @@
 -- `clip` sweeps the list with `clipped`.
 use mathlib.Core.Path.{refl}
-use Prim.Native.Nat.{◌-◌}
 use native.Mathlib.Omega.{arith}
 use Rattle.distance.proofs.Lists.{sweep-none, sweep-more, sweep-all}
 use Rattle.distance.proofs.search.clip.Goals as goal

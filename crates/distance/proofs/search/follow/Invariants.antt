@@ -1,6 +1,5 @@
 -- `follow`: see proofs/Going.
 use mathlib.Core.Path.{◌≡◌}
-use Prim.Native.Nat.{◌-◌}
 use lib.ListN.{length}
 use Rattle.model.specs.Network.{network}
 use Rattle.distance.proofs.Going.{Going}

@@ -8,7 +8,6 @@ use Rattle.distance.proofs.Turns.{turn-start, all-few, keys-fit, waits, turn-nea
 use Rattle.distance.specs.Keys.{Least}
 use Rattle.model.proofs.Laws.Zeros.{cleared}
 use lib.ListN.{length, length-set}
-use mathlib.Core.Logic.{⊎_elim}
 use mathlib.Core.Path.{◌≡◌, ◌∙◌, refl}
 use native.Mathlib.Omega.{arith}
 use Rattle.distance.proofs.search.search_with.Goals.{then-len-eq0, else-len-eq0+then-bound-least}

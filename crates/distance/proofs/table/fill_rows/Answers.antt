@@ -1,6 +1,5 @@
 -- `fill_rows`: proofs/Tables has the rows while they are filled.
 use mathlib.Core.Path.{refl}
-use Prim.Native.Nat.{◌-◌}
 use native.Mathlib.Nat.{le_antisymm}
 use native.Mathlib.Omega.{arith}
 use borrow.Author.Rules.{rules}

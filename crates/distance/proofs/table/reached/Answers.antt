@@ -1,5 +1,4 @@
 -- `reached` counts no more entries than it has looked at.
-use Prim.Native.Nat.{◌-◌}
 use native.Mathlib.Omega.{arith}
 use Rattle.distance.proofs.table.reached.Goals as goal
 

@@ -1,6 +1,5 @@
 -- Each list is what the keys passed say; the keys left say the rest.
 use mathlib.Core.Path.{refl}
-use Prim.Native.Nat.{◌-◌}
 use native.Mathlib.Omega.{arith}
 use lib.ListN.{length-set}
 use borrow.Author.Rules.{rules}

@@ -1,5 +1,4 @@
 -- `count_below` keeps a tally.
-use Prim.Native.Nat.{◌-◌}
 use native.Mathlib.Omega.{arith}
 use lib.Dec.{ltb}
 use lib.ListN.{get_or}

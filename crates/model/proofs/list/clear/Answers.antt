@@ -1,6 +1,5 @@
 -- The entries passed are 0, the others as they were.
 use mathlib.Core.Path.{refl}
-use Prim.Native.Nat.{◌-◌}
 use lib.ListN.{length-set}
 use Rattle.model.proofs.Laws.Zeros.{zeros-more, zeros-all}
 use native.Mathlib.Omega.{arith}

@@ -1,5 +1,4 @@
 -- The place reached, and the equal entries from there on, are the place behind all of them.
-use Prim.Native.Nat.{◌-◌}
 use native.Mathlib.Omega.{arith}
 use Rattle.model.proofs.Laws.Equals.{end-behind, end-begins, end_later, end-here, end-last}
 use Rattle.model.proofs.list.equals_end.Goals as goal

@@ -1,5 +1,4 @@
 -- The numbers of the thresholds passed have been added to their totals, and the last of them to all totals behind.
-use Prim.Native.Nat.{◌-◌}
 use native.Mathlib.Numerals.{add-one}
 use native.Mathlib.Omega.{arith}
 use Rattle.edge_pair.proofs.Laws.Totals.{added-as, running-from, running-next, running-all}

@@ -1,5 +1,4 @@
 use mathlib.Core.Path.{sym, ◌∙◌}
-use Prim.Native.Nat.{◌-◌}
 use Rattle.text.proofs.Laws.Parallel.{level-kept}
 use Rattle.reading.proofs.Progress.{line-long, less-left}
 use Rattle.network_reader.proofs.NetworkRows.{lines-begin, one-taken, one-refused, lines_end}

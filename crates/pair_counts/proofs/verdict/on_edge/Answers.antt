@@ -2,7 +2,6 @@ use Rattle.model.proofs.Laws.Counting.{one-if-one}
 use lib.Dec.{eqb}
 use native.Mathlib.Omega.{arith}
 use mathlib.Core.Bool.{◌&&◌}
-use Prim.Native.Nat.{◌-◌}
 use lib.ListN.{get_or}
 use Rattle.pair_counts.proofs.Laws.Tally.{on-edge-none, on-edge-more, on-edge-all}
 use Rattle.pair_counts.proofs.verdict.on_edge.Goals as goal

@@ -1,5 +1,4 @@
 use native.Mathlib.Omega.{arith}
-use Prim.Native.Nat.{◌-◌}
 use Rattle.perimeter.proofs.Tally.{tally-begins, tally-goes-on, tally-ends}
 use Rattle.perimeter.proofs.counts.count_insides.Goals as goal
 

@@ -1,5 +1,4 @@
 use native.Mathlib.Omega.{arith}
-use Prim.Native.Nat.{◌-◌}
 use Rattle.model.specs.Counting.{count_below_of}
 use Rattle.perimeter.specs.Counts.{nodes_at}
 use Rattle.perimeter.proofs.Tally.{tally-begins, tally-goes-on, tally-ends, node-counted}

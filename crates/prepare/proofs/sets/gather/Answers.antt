@@ -1,6 +1,5 @@
 -- The values gathered, and those still to come, are all of the set's.
 use mathlib.Core.Path.{◌≡◌, refl, ap, ◌∙◌}
-use Prim.Native.Nat.{◌-◌}
 use native.Mathlib.Omega.{arith}
 use lib.ListN.{length, length-set}
 use Rattle.prepare.proofs.Laws.Kept.{kept-all, kept-later, kept_set}

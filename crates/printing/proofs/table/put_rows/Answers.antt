@@ -1,6 +1,5 @@
 -- `put_rows` puts one row each time.
 use native.Mathlib.Omega.{arith}
-use Prim.Native.Nat.{◌-◌}
 use Rattle.printing.proofs.Laws.Rows.{rows_start, row_room, row_put, rows-put}
 use Rattle.printing.proofs.table.put_rows.Goals as goal
 

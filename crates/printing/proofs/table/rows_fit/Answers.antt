@@ -1,6 +1,5 @@
 -- `rows_fit` takes each row's size off the room that is left.
 use native.Mathlib.Omega.{arith}
-use Prim.Native.Nat.{◌-◌}
 use Rattle.printing.proofs.Laws.Rows.{fit-start, no-fit, fit-more, all_fit}
 use Rattle.printing.proofs.table.rows_fit.Goals as goal
 

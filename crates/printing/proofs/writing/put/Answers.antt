@@ -1,5 +1,4 @@
 -- `put` copies one byte each time.
-use Prim.Native.Nat.{◌-◌}
 use native.Mathlib.Omega.{arith}
 use Rattle.printing.proofs.Laws.Writing.{copy_start, copy-room, copy_more, copied}
 use Rattle.printing.proofs.writing.put.Goals as goal

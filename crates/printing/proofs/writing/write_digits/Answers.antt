@@ -1,5 +1,4 @@
 -- `write_digits` writes the last digit of what is left each time.
-use Prim.Native.Nat.{◌-◌}
 use native.Mathlib.Omega.{arith}
 use Rattle.text.proofs.Laws.Digits.{fill_start, fill_more, filled}
 use Rattle.printing.proofs.writing.write_digits.Goals as goal

@@ -1,5 +1,4 @@
 -- `write_digits` writes the last digit of what is left each time.
-use Prim.Native.Nat.{◌-◌}
 use Rattle.text.proofs.Laws.Digits.{Filling}
 use Rattle.printing.proofs.writing.write_digits.Given as goal
 

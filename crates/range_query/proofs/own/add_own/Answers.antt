@@ -9,7 +9,7 @@ use Rattle.model.specs.Limits.{max_events}
 use Rattle.model.proofs.Laws.Equals.{Equals, equals-end}
 use Rattle.range_query.specs.Ladder.{found_in}
 use Rattle.range_query.specs.Metres.{metres_between}
-use Rattle.range_query.proofs.Laws.Own.{square, own-none, own-more, own-all}
+use Rattle.range_query.proofs.Laws.Own.{own-none, own-more, own-all}
 use Rattle.range_query.proofs.Laws.Pairs.{row-found}
 use Rattle.range_query.proofs.own.add_own.Goals as goal
 

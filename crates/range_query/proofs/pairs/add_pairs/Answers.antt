@@ -1,6 +1,5 @@
 -- Two runs on one edge; or the events so far are counted, those at one offset together.
 use mathlib.Core.Path.{◌≡◌}
-use Prim.Native.Nat.{◌-◌}
 use native.Mathlib.Omega.{arith}
 use lib.Dec.{leb}
 use lib.ListN.{length}

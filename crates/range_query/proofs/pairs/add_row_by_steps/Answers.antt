@@ -1,6 +1,5 @@
 -- The offsets so far are counted, each from its own threshold on.
 use mathlib.Core.Path.{◌≡◌, ap, ◌∙◌}
-use Prim.Native.Nat.{◌-◌}
 use native.Mathlib.Omega.{arith}
 use lib.ListN.{length, get_or}
 use Rattle.edge_pair.specs.Edges.{side_of}

@@ -1,6 +1,5 @@
 -- The cells so far hold the buckets of their metres.
 use mathlib.Core.Path.{◌∙◌}
-use Prim.Native.Nat.{◌-◌}
 use native.Mathlib.Omega.{arith}
 use Rattle.range_query.proofs.Laws.Placing.{placing-none, placing-more, placing-done}
 use Rattle.range_query.proofs.spreading.fill_places.Goals as goal

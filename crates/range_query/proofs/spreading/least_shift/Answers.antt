@@ -1,5 +1,4 @@
 -- No shift is tried past 31.
-use Prim.Native.Nat.{◌-◌}
 use native.Mathlib.Omega.{arith}
 use Rattle.range_query.proofs.spreading.least_shift.Goals as goal
 

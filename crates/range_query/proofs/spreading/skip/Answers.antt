@@ -1,5 +1,4 @@
 -- Every step passed so far is below the number of metres.
-use Prim.Native.Nat.{◌-◌}
 use native.Mathlib.Omega.{arith}
 use Rattle.range_query.proofs.Laws.Filling.{skip-more}
 use Rattle.range_query.proofs.spreading.skip.Goals as goal

@@ -1,5 +1,4 @@
 -- Nothing is promised of the gap but that it is found.
-use Prim.Native.Nat.{◌-◌}
 use native.Mathlib.Omega.{arith}
 use Rattle.range_query.proofs.spreading.widest_gap.Goals as goal
 

@@ -1,4 +1,3 @@
-use Prim.Native.Nat.{◌-◌}
 use native.Mathlib.Omega.{arith}
 use Rattle.reading.proofs.Filled.{fill_begins, fill-goes-on, fill-ends}
 use Rattle.reading.proofs.answer_list.fill.Goals as goal

@@ -1,6 +1,5 @@
 -- One up is the definition's own step.
 use mathlib.Core.Path.{◌∙◌, refl, sym}
-use Prim.Native.Nat.{◌-◌}
 use native.Mathlib.Omega.{arith}
 use lib.ListN.{length}
 use Rattle.sweep.proofs.Laws.Moving.{rises-no-more, rises-one, rises-to-all}

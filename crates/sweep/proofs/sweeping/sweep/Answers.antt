@@ -1,5 +1,5 @@
 -- The invariant is that of the turns so far; each turn is one step of it.
-use Prim.Native.Nat.{◌-◌, ◌+◌, ◌≤◌}
+use Prim.Native.Nat.{◌+◌, ◌≤◌}
 use lib.ListN.{length, get_or}
 use mathlib.Core.Path.{◌≡◌, ◌∙◌, sym}
 use Rattle.sweep.specs.Sweeping.{standing, Movable}

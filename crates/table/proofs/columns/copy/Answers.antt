@@ -1,7 +1,7 @@
 -- The front of the list is copied, the rest is still to come.
 use mathlib.Core.List.{List, ◌++◌}
 use mathlib.Core.Path.{refl, ap, ◌∙◌}
-use Prim.Native.Nat.{ℕ, ◌+◌, ◌-◌}
+use Prim.Native.Nat.{ℕ, ◌+◌}
 use native.Mathlib.Omega.{arith}
 use lib.ListN.{take, drop, get_or, length-set, drop_of_length-le}
 use Rattle.layout.proofs.Laws.Filling.{one_more, next_of, all-filled}

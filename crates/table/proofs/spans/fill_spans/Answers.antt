@@ -1,5 +1,4 @@
 -- Both ends of the envelopes of the columns so far are stored.
-use Prim.Native.Nat.{◌-◌}
 use native.Mathlib.Omega.{arith}
 use Rattle.table.specs.Table.{leasts, greatests}
 use Rattle.table.proofs.Laws.Spans.{stored-none, stored_more, stored-all}

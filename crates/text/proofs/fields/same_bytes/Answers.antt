@@ -1,5 +1,4 @@
 -- `same_bytes`: equally long, and each byte that was passed is the same.
-use Prim.Native.Nat.{◌-◌}
 use native.Mathlib.Omega.{arith}
 use Rattle.text.proofs.Laws.Fields.{same_start, one-differs, one_same, all_same, differ-length}
 use Rattle.text.proofs.fields.same_bytes.Goals as goal

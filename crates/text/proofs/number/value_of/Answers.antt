@@ -1,5 +1,4 @@
 -- `value_of` answers what its bytes stand for: the loop reads one digit more each time, and the limit stops it early.
-use Prim.Native.Nat.{◌-◌}
 use native.Mathlib.Omega.{arith}
 use Rattle.text.proofs.Laws.Numbers.{read-start, digit-below, digit-above, all_read, no_digit, too-great, one_more}
 use Rattle.text.proofs.number.value_of.Goals as goal

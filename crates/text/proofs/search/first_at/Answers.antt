@@ -1,5 +1,4 @@
 -- `first_at`: each byte that was passed is another one.
-use Prim.Native.Nat.{◌-◌}
 use native.Mathlib.Omega.{arith}
 use Rattle.text.proofs.Laws.Places.{passed_none, pass-one, place_here, place_end, first-here, first-later, first-end}
 use Rattle.text.proofs.search.first_at.Goals as goal

@@ -1,5 +1,4 @@
 -- `pair_at`: at each place that was passed one of the two bytes is another one.
-use Prim.Native.Nat.{◌-◌}
 use mathlib.Core.Bool.{and-false}
 use borrow.Author.Tests.{eq-eqb, ne_eqb}
 use native.Mathlib.Omega.{arith}

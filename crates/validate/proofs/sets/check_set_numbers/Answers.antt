@@ -1,5 +1,4 @@
 use mathlib.Core.Path.{sym, ◌∙◌}
-use Prim.Native.Nat.{◌-◌}
 use native.Mathlib.Omega.{arith}
 use Rattle.model.proofs.Laws.Refusal.{scan_begins, scan-goes-on, scan-stops, scan-ends}
 use Rattle.model.specs.Checks.{set_numbers_check}

@@ -1,4 +1,3 @@
-use Prim.Native.Nat.{◌-◌}
 use native.Mathlib.Omega.{arith}
 use lib.ListN.{get_or}
 use Rattle.validate.proofs.SetSizes.{counted_none, counted-more, counted-all, size_small}

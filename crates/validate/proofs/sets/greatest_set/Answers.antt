@@ -1,4 +1,3 @@
-use Prim.Native.Nat.{◌-◌}
 use native.Mathlib.Omega.{arith}
 use Rattle.validate.proofs.SetSizes.{greatest-from, greatest-none}
 use Rattle.validate.proofs.sets.greatest_set.Goals.{else-greatest-sets, then-greatest-sets}
