@@ -191,13 +191,13 @@ pub fn text<'a, R: Read>(input: &mut R, list: &'a mut [u8]) -> &'a mut [u8]
 }
 
 // Prints the next line of the input, without its end, and answers how many bytes it has. A write that fails is passed over.
-fn name<R: Read, W: Write>(input: &mut R, out: &mut W) -> u32 {
+fn name<R: Read, W: Write>(input: &mut R, output: &mut W) -> u32 {
     for count in 0..MAX_BYTES {
         let b = byte(input);
         if b == b'\n' {
             return count;
         }
-        let _ = out.write_all(&[b]);
+        let _ = output.write_all(&[b]);
     }
     MAX_BYTES
 }
@@ -218,18 +218,18 @@ fn next_section<R: Read>(input: &mut R, room: &mut [u32]) -> u32
 // case before is given, 0 at the start. A list is lent to read with.
 pub fn next_case<R: Read, W: Write>(
     input: &mut R,
-    out: &mut W,
+    output: &mut W,
     function: u32,
     room: &mut [u32],
 ) -> u32
     ensures { result ≤ max function 1000 }
 {
     if 0 < function {
-        if 0 < name(input, out) {
+        if 0 < name(input, output) {
             return function;
         }
     }
     let next = next_section(input, room);
-    name(input, out);
+    name(input, output);
     next
 }
