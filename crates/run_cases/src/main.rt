@@ -5,7 +5,6 @@
 // are answer lists: what stands in them shows what was not written. A new function is an arm of `asked` or `on_lists` here, of `on_network`
 // in networks or of `on_text` in readers, and a section of stdin.
 #![tactic(auto)]
-#![tactic(auto)]
 
 mod answers;
 mod checks;
