@@ -1,2 +1,3 @@
 -- One file to a concept.
+pub mod Front
 pub mod Held
