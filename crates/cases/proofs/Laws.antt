@@ -1,12 +1,11 @@
 -- Laws of the lists of a case: passing one after the other.
 use mathlib.Core.List.{List, [], ◌∷◌}
-use mathlib.Core.Path.{◌≡◌, refl, sym, ap, ◌∙◌}
+use mathlib.Core.Path.{◌≡◌, sym, ap, ◌∙◌}
 use Prim.Native.Nat.{ℕ, zero, suc, ◌+◌, ◌-◌, ◌≤◌, ◌<◌, min}
 use native.Mathlib.Nat.{zero-min, suc-min-suc, add-zero, sub-zero}
-use native.Mathlib.Numerals.{add-one}
 use native.Mathlib.Omega.{arith}
-use lib.ListN.{length, get_or, take, drop, set, length-set, length-drop, drop_of_length-le}
-use lib.Seq.{take_all, take-nil, drop-nil, take-suc, take-suc-set, get_or-drop, drop-drop}
+use lib.ListN.{length, get_or, take, drop, length-drop, drop_of_length-le}
+use lib.Seq.{take-nil, drop-nil, get_or-drop, drop-drop}
 use Rattle.cases.specs.Lists.{list_of}
 
 -- what is taken, and what is left, does not go behind the end
