@@ -1,15 +1,15 @@
 // A file read whole, and bytes written to standard output. A call that a signal interrupts is made again.
-ghost use Rattle.std.specs.Prelude.{◌≡◌, ◌<◌, ◌≤◌, length, take, IfSome};
+ghost use Rattle.std.specs.Prelude.{◌≡◌, ◌<◌, ◌≤◌, length, take, IfSome, OnOk};
 ghost use Rattle.std.specs.Io.KnownBytes.{Appends};
 ghost use Rattle.std.specs.Process.{exit_status};
 
-use std::fs;
 use std::io::{ErrorKind, Read, Write};
 use std::process::ExitCode;
 use std::rt::Files;
+use std::{fs, io};
 
-// The most calls that are made to read one file: over a million more than any has bytes, so that many may be interrupted, and the program
-// ends whatever the system answers.
+// The most calls that are made to read one file, or to write the output: over a million more than either has bytes, so that many may be
+// interrupted, and the program ends whatever the system answers to them.
 const CALLS: usize = 1100000;
 
 // Reads until the list is full or the file ends, and answers how many bytes were read: 0 if a call fails or the calls run out. Of a file
@@ -47,11 +47,32 @@ pub(crate) fn read(files: &impl Files, path: &str, text: &mut [u8]) -> usize
     }
 }
 
+// Writes all the bytes, or answers the error of the call that failed, or of the last one if the calls run out.
+fn write_all<W: Write>(out: &mut W, bytes: &[u8]) -> io::Result<()>
+    ensures { OnOk result (Appends (W.contents out.old) (W.contents out.new) bytes.now) }
+{
+    let mut done = 0;
+    for call in 0..CALLS {
+        if done == bytes.len() {
+            return Ok(());
+        }
+        match out.write(&bytes[done..]) {
+            Ok(count) => done += count,
+            Err(e) => {
+                if e.kind() != ErrorKind::Interrupted || call == CALLS - 1 {
+                    return Err(e);
+                }
+            }
+        }
+    }
+    Err(io::Error::from(ErrorKind::WriteZero))
+}
+
 // Writes the bytes, and answers the status that the program ends with. If a write fails, one line on standard error says so and why.
 pub(crate) fn print<W: Write>(out: &mut W, errors: &impl Eprint, bytes: &[u8]) -> ExitCode
     ensures { exit_status result ≡ 0 → Appends (W.contents out.old) (W.contents out.new) bytes.now }
 {
-    match out.write_all(bytes) {
+    match write_all(out, bytes) {
         Ok(()) => ExitCode::SUCCESS,
         Err(e) => {
             let _ = eprintln!(errors; "kcount: the output was not written in full: {e}");
