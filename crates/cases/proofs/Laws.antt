@@ -1,12 +1,11 @@
--- Laws of the lists of a case: passing one after the other, and copying one to the front of another.
+-- Laws of the lists of a case: passing one after the other.
 use mathlib.Core.List.{List, [], ◌∷◌}
-use mathlib.Core.Path.{◌≡◌, refl, sym, ap, ◌∙◌}
+use mathlib.Core.Path.{◌≡◌, sym, ap, ◌∙◌}
 use Prim.Native.Nat.{ℕ, zero, suc, ◌+◌, ◌-◌, ◌≤◌, ◌<◌, min}
 use native.Mathlib.Nat.{zero-min, suc-min-suc, add-zero, sub-zero}
-use native.Mathlib.Numerals.{add-one}
 use native.Mathlib.Omega.{arith}
-use lib.ListN.{length, get_or, take, drop, set, length-set, length-drop, drop_of_length-le}
-use lib.Seq.{take_all, take-nil, drop-nil, take-suc, take-suc-set, get_or-drop, drop-drop}
+use lib.ListN.{length, get_or, take, drop, length-drop, drop_of_length-le}
+use lib.Seq.{take-nil, drop-nil, get_or-drop, drop-drop}
 use Rattle.cases.specs.Lists.{list_of}
 
 -- what is taken, and what is left, does not go behind the end
@@ -65,32 +64,3 @@ module _ {lists : List ℕ} {number at k : ℕ} (passed : Passed lists number at
     passed-end to e below =
         let short : length lists ≤ at + 1 = omega arith in
         sym (here ∙ rw (drop_of_length-le lists short, take-nil))
-
--- the first k entries are copied
-pub record Copied (list old now : List ℕ) (k : ℕ) : Type 0 where
-  pub long : length now ≡ length old
-  pub inside : k ≤ length old
-  pub counted : k ≤ length list
-  pub same : take k now ≡ take k list
-
-pub copied_none : (list old : List ℕ) → Copied list old old 0
-copied_none list old = record { long = refl; inside = omega arith; counted = omega arith; same = refl }
-
-module _ {list old now : List ℕ} {k : ℕ} (copied : Copied list old now k) where
-  pub copy-one : k < length list → k < length now → Copied list old (set now k (get_or list k 0)) (k + 1)
-  copy-one h room = record {
-    long = simp length-set copied.long;
-    inside = omega arith;
-    counted = omega arith;
-    same = rw (add-one, take-suc-set, copied.same, take-suc list k 0);
-  }
-
-  -- there is no more room
-  pub copied-full : length now ≤ k → now ≡ take (length old) list
-  copied-full h =
-      let e : k ≡ length old = omega (arith, copied.long, copied.inside) in
-      sym (take_all k now h) ∙ copied.same ∙ rw e
-
-  -- there are no more entries
-  pub copied_all : length list ≤ k → take k now ≡ take (length old) list
-  copied_all h = copied.same ∙ take_all k list h ∙ sym (take_all (length old) list (omega (arith, copied.inside)))

@@ -1,8 +1,8 @@
 // Reading names, numbers and texts.
 ghost use Rattle.std.specs.Prelude.{◌≤◌, max, length};
 
-use libc::{STDIN_FILENO, STDOUT_FILENO};
 use model::value_at;
+use std::io::{Read, Write};
 
 // No name, and no words in front of a number, have more bytes.
 const MAX_BYTES: u32 = 1000;
@@ -11,7 +11,7 @@ const MAX_FUNCTION: u32 = 1000;
 
 // A number, and the byte behind it.
 #[derive(Drop)]
-struct Read {
+struct NumberRead {
     value: u32,
     behind: u8,
 }
@@ -30,11 +30,13 @@ struct ByteRun {
     value: u8,
 }
 
-// The next byte, or a line feed where the input has ended.
-fn byte() -> u8 {
+// The next byte, or a line feed where the input has ended or a read fails.
+fn byte<R: Read>(input: &mut R) -> u8 {
     let mut bytes = [b'\n'];
-    io::read_full(STDIN_FILENO, &mut bytes);
-    bytes[0]
+    match input.read_exact(&mut bytes) {
+        Ok(()) => bytes[0],
+        Err(_) => b'\n',
+    }
 }
 
 fn is_digit(b: u8) -> bool {
@@ -54,29 +56,26 @@ fn with_digit(value: u32, b: u8) -> u32 {
 }
 
 // The number that goes on with the next byte.
-fn number(start: u32) -> Read {
+fn number<R: Read>(input: &mut R, start: u32) -> NumberRead {
     let mut value = start;
-    let mut left = MAX_BYTES;
-    while 0 < left {
-        let b = byte();
+    for _ in 0..MAX_BYTES {
+        let b = byte(input);
         if !is_digit(b) {
-            return Read { value, behind: b };
+            return NumberRead { value, behind: b };
         }
         value = with_digit(value, b);
-        left -= 1;
     }
-    Read {
+    NumberRead {
         value,
         behind: b'\n',
     }
 }
 
 // The first digit behind words, or a line feed at an empty line.
-fn first_digit() -> u8 {
+fn first_digit<R: Read>(input: &mut R) -> u8 {
     let mut is_line_empty = true;
-    let mut left = MAX_BYTES;
-    while 0 < left {
-        let b = byte();
+    for _ in 0..MAX_BYTES {
+        let b = byte(input);
         if is_digit(b) {
             return b;
         }
@@ -87,24 +86,23 @@ fn first_digit() -> u8 {
         } else {
             is_line_empty = true;
         }
-        left -= 1;
     }
     b'\n'
 }
 
-fn next_number_run() -> NumberRun {
-    let b = first_digit();
+fn next_number_run<R: Read>(input: &mut R) -> NumberRun {
+    let b = first_digit(input);
     if !is_digit(b) {
         return NumberRun { times: 0, value: 0 };
     }
-    let first = number(with_digit(0, b));
+    let first = number(input, with_digit(0, b));
     if first.behind != b'x' {
         return NumberRun {
             times: 1,
             value: first.value,
         };
     }
-    let second = number(0);
+    let second = number(input, 0);
     NumberRun {
         times: first.value,
         value: second.value,
@@ -112,13 +110,13 @@ fn next_number_run() -> NumberRun {
 }
 
 // The byte that an escape stands for.
-fn escaped() -> ByteRun {
-    let b = byte();
+fn escaped<R: Read>(input: &mut R) -> ByteRun {
+    let b = byte(input);
     if is_digit(b) {
-        let read = number(with_digit(0, b));
+        let read = number(input, with_digit(0, b));
         return ByteRun {
             times: read.value,
-            value: byte(),
+            value: byte(input),
         };
     }
     match b {
@@ -134,11 +132,11 @@ fn escaped() -> ByteRun {
     }
 }
 
-fn next_byte_run() -> ByteRun {
-    let b = byte();
+fn next_byte_run<R: Read>(input: &mut R) -> ByteRun {
+    let b = byte(input);
     match b {
         b'\n' => ByteRun { times: 0, value: b },
-        b'\\' => escaped(),
+        b'\\' => escaped(input),
         _ => ByteRun { times: 1, value: b },
     }
 }
@@ -151,15 +149,14 @@ fn one_less(n: u32) -> u32 {
 }
 
 // Reads numbers up to an empty line, or as many as the list holds, and answers the part of the list that was filled.
-pub fn numbers(list: &mut [u32]) -> &mut [u32]
+pub fn numbers<'a, R: Read>(input: &mut R, list: &'a mut [u32]) -> &'a mut [u32]
     ensures { length result.now ≤ length list.old }
 {
     let mut left = 0;
     let mut value = 0;
-    let mut k = 0;
-    while k < list.len() {
+    for k in 0..list.len() {
         if left == 0 {
-            let read = next_number_run();
+            let read = next_number_run(input);
             left = read.times;
             value = read.value;
             if left == 0 {
@@ -168,21 +165,19 @@ pub fn numbers(list: &mut [u32]) -> &mut [u32]
         }
         list[k] = value;
         left = one_less(left);
-        k += 1;
     }
     list
 }
 
 // Reads a text, or as much of it as the list holds, and answers the part of the list that was filled.
-pub fn text(list: &mut [u8]) -> &mut [u8]
+pub fn text<'a, R: Read>(input: &mut R, list: &'a mut [u8]) -> &'a mut [u8]
     ensures { length result.now ≤ length list.old }
 {
     let mut left = 0;
     let mut value = 0;
-    let mut k = 0;
-    while k < list.len() {
+    for k in 0..list.len() {
         if left == 0 {
-            let read = next_byte_run();
+            let read = next_byte_run(input);
             left = read.times;
             value = read.value;
             if left == 0 {
@@ -191,30 +186,27 @@ pub fn text(list: &mut [u8]) -> &mut [u8]
         }
         list[k] = value;
         left = one_less(left);
-        k += 1;
     }
     list
 }
 
-// Prints the next line of the input, without its end, and answers how many bytes it has.
-fn name() -> u32 {
-    let mut count = 0;
-    while count < MAX_BYTES {
-        let b = byte();
+// Prints the next line of the input, without its end, and answers how many bytes it has. A write that fails is passed over.
+fn name<R: Read, W: Write>(input: &mut R, output: &mut W) -> u32 {
+    for count in 0..MAX_BYTES {
+        let b = byte(input);
         if b == b'\n' {
             return count;
         }
-        io::write_all(STDOUT_FILENO, &[b]);
-        count += 1;
+        let _ = output.write_all(&[b]);
     }
-    count
+    MAX_BYTES
 }
 
 // The number of the function that the next section is about; 0 where there is none, or the number is too great.
-fn next_section(room: &mut [u32]) -> u32
+fn next_section<R: Read>(input: &mut R, room: &mut [u32]) -> u32
     ensures { result ≤ 1000 }
 {
-    let read = numbers(room);
+    let read = numbers(input, room);
     let function = value_at(read, 0);
     if MAX_FUNCTION < function {
         return 0;
@@ -224,15 +216,20 @@ fn next_section(room: &mut [u32]) -> u32
 
 // Prints the name of the next case, and answers the number of the function that it is about, 0 where there are no more cases. That of the
 // case before is given, 0 at the start. A list is lent to read with.
-pub fn next_case(function: u32, room: &mut [u32]) -> u32
+pub fn next_case<R: Read, W: Write>(
+    input: &mut R,
+    output: &mut W,
+    function: u32,
+    room: &mut [u32],
+) -> u32
     ensures { result ≤ max function 1000 }
 {
     if 0 < function {
-        if 0 < name() {
+        if 0 < name(input, output) {
             return function;
         }
     }
-    let next = next_section(room);
-    name();
+    let next = next_section(input, room);
+    name(input, output);
     next
 }

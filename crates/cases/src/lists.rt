@@ -40,13 +40,8 @@ pub fn list(lists: &[u32], number: u32) -> &[u32]
 pub fn filled<'a>(list: &[u32], out: &'a mut [u32]) -> &'a mut [u32]
     ensures { result.now ≡ take (length out.old) list.now }
 {
-    let mut k = 0;
-    while k < list.len() {
-        if out.len() <= k {
-            return out;
-        }
-        out[k] = list[k];
-        k += 1;
-    }
-    &mut out[..k]
+    let count = list.len().min(out.len());
+    let front = &mut out[..count];
+    front.copy_from_slice(&list[..count]);
+    front
 }

@@ -1,2 +1,4 @@
 -- One file to a concept.
+pub mod Front
 pub mod Held
+pub mod Written

@@ -1,94 +1,82 @@
 // A file read whole, and bytes written to standard output. A call that a signal interrupts is made again.
-ghost use Rattle.std.specs.Prelude.{◌≤◌, length};
+ghost use Rattle.std.specs.Prelude.{◌≡◌, ◌<◌, ◌≤◌, length, take, IfSome, OnOk};
+ghost use Rattle.std.specs.Io.KnownBytes.{Appends};
+ghost use Rattle.std.specs.Process.{exit_status};
 
-use libc::{EINTR, STDOUT_FILENO};
+use std::io::{ErrorKind, Read, Write};
+use std::process::ExitCode;
+use std::rt::Files;
+use std::{fs, io};
 
-// The most calls that are made to open one file, to read it, or to write the output: over a million more than either has bytes, so that
-// many may be interrupted, and the program ends whatever the system answers.
+// The most calls that are made to read one file, or to write the output: over a million more than either has bytes, so that many may be
+// interrupted, and the program ends whatever the system answers to them.
 const CALLS: usize = 1100000;
 
-// Opens the file for reading, and answers a descriptor, or a number below 0.
-fn open(path: &[u8]) -> i32 {
-    let mut calls = CALLS;
-    while calls > 0 {
-        let fd = os::open_read(path);
-        if fd >= 0 {
-            return fd;
-        }
-        if os::errno() != EINTR {
-            return fd;
-        }
-        calls -= 1;
-    }
-    -1
-}
-
-// Reads until the list is full or the file ends, and answers how many bytes were read: 0 if a call fails or the calls run out.
-fn read_all(fd: i32, text: &mut [u8]) -> usize
-    ensures { result ≤ length text.new }
+// Reads until the list is full or the file ends, and answers how many bytes were read: 0 if a call fails or the calls run out. Of a file
+// whose bytes are known these are all, or as many as the list has room for.
+fn read_all<R: Read>(file: &mut R, text: &mut [u8]) -> usize
+    ensures within { result ≤ length text.new }
+    ensures whole { IfSome (R.remaining file.old) (λ bytes. 0 < result → take result text.new ≡ take (length text.new) bytes) }
 {
     let mut done = 0;
-    let mut calls = CALLS;
-    while calls > 0 {
+    for _ in 0..CALLS {
         if done == text.len() {
             return done;
         }
-        let got = libc::read(fd, &mut text[done..]);
-        if got == 0 {
-            return done;
-        }
-        if got < 0 {
-            if os::errno() != EINTR {
-                return 0;
+        match file.read(&mut text[done..]) {
+            Ok(0) => return done,
+            Ok(count) => done += count,
+            Err(e) => {
+                if e.kind() != ErrorKind::Interrupted {
+                    return 0;
+                }
             }
         }
-        done += io::count(got, &text[done..]);
-        calls -= 1;
     }
     0
 }
 
 // Fills the list from a file, and answers how many bytes were read. A file that cannot be opened, or of which any read fails,
 // counts as empty: its first part alone might be another text that is accepted.
-pub(crate) fn read(path: &[u8], text: &mut [u8]) -> usize
+pub(crate) fn read(files: &impl Files, path: &str, text: &mut [u8]) -> usize
     ensures { result ≤ length text.new }
 {
-    let fd = open(path);
-    if fd < 0 {
-        return 0;
+    match fs::open(files, path) {
+        Ok(mut file) => read_all(&mut file, text),
+        Err(_) => 0,
     }
-    let count = read_all(fd, text);
-    libc::close(fd);
-    count
 }
 
-// Writes all the bytes, and answers whether that was done.
-fn write_all(fd: i32, bytes: &[u8]) -> bool {
+// Writes all the bytes, or answers the error of the call that failed, or of the last one if the calls run out.
+fn write_all<W: Write>(out: &mut W, bytes: &[u8]) -> io::Result<()>
+    ensures { OnOk result (Appends (W.contents out.old) (W.contents out.new) bytes.now) }
+{
     let mut done = 0;
-    let mut calls = CALLS;
-    while calls > 0 {
+    for call in 0..CALLS {
         if done == bytes.len() {
-            return true;
+            return Ok(());
         }
-        let rest = &bytes[done..];
-        let got = libc::write(fd, rest);
-        if got < 0 {
-            if os::errno() != EINTR {
-                return false;
+        match out.write(&bytes[done..]) {
+            Ok(count) => done += count,
+            Err(e) => {
+                if e.kind() != ErrorKind::Interrupted || call == CALLS - 1 {
+                    return Err(e);
+                }
             }
         }
-        done += io::count(got, rest);
-        calls -= 1;
     }
-    false
+    Err(io::Error::from(ErrorKind::WriteZero))
 }
 
-// Writes the bytes to standard output and closes it. If either fails, one line on standard error says so and why.
-pub(crate) fn print(bytes: &[u8]) {
-    if write_all(STDOUT_FILENO, bytes) {
-        if libc::close(STDOUT_FILENO) == 0 {
-            return;
+// Writes the bytes, and answers the status that the program ends with. If a write fails, one line on standard error says so and why.
+pub(crate) fn print<W: Write>(out: &mut W, errors: &impl Eprint, bytes: &[u8]) -> ExitCode
+    ensures { exit_status result ≡ 0 → Appends (W.contents out.old) (W.contents out.new) bytes.now }
+{
+    match write_all(out, bytes) {
+        Ok(()) => ExitCode::SUCCESS,
+        Err(e) => {
+            let _ = eprintln!(errors; "kcount: the output was not written in full: {e}");
+            ExitCode::FAILURE
         }
     }
-    os::fail(b"kcount: the output was not written in full");
 }

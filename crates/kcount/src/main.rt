@@ -8,6 +8,8 @@ ghost use Rattle.report.specs.Report.{report_room};
 ghost use Rattle.kcount.specs.Held.{Held, HeldOfFronts, RoomToRead};
 
 use printing::Printed;
+use std::process::ExitCode;
+use std::rt::Files;
 
 // One byte more than a text may have, so that a longer one is refused and not cut off.
 const TEXT: usize = reading::MAX_BYTES + 1;
@@ -25,22 +27,28 @@ fn fill(network: &[u8], reports: &[u8], thresholds: &[u8], out: &mut [u8]) -> us
 }
 
 // Reads the three files, each into its list, and fills the last list with the report over what was read. That this is what the files
-// hold is not promised: no contract of a system call says what is read.
-fn run(network: &mut [u8], reports: &mut [u8], thresholds: &mut [u8], out: &mut [u8]) -> usize
+// hold is not promised: no contract says what is read of a file of the system.
+fn run(
+    rt: &impl Files,
+    network: &mut [u8],
+    reports: &mut [u8],
+    thresholds: &mut [u8],
+    out: &mut [u8],
+) -> usize
     requires { RoomToRead network.old reports.old thresholds.old out.old }
     ensures { HeldOfFronts network.new reports.new thresholds.new result out.new }
 {
-    let a = files::read(b"network.gr", network);
-    let b = files::read(b"reports.csv", reports);
-    let c = files::read(b"thresholds.csv", thresholds);
+    let a = files::read(rt, "network.gr", network);
+    let b = files::read(rt, "reports.csv", reports);
+    let c = files::read(rt, "thresholds.csv", thresholds);
     fill(&network[..a], &reports[..b], &thresholds[..c], out)
 }
 
-fn main() {
+fn main(rt: HostRuntime) -> ExitCode {
     let mut network = [0u8; TEXT];
     let mut reports = [0u8; TEXT];
     let mut thresholds = [0u8; TEXT];
     let mut out = [0u8; report::REPORT_ROOM];
-    let count = run(&mut network, &mut reports, &mut thresholds, &mut out);
-    files::print(&out[..count]);
+    let count = run(&rt, &mut network, &mut reports, &mut thresholds, &mut out);
+    files::print(&mut rt.stdout(), &rt, &out[..count])
 }

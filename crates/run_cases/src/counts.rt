@@ -4,6 +4,7 @@ use crate::show::{line_end, named, named_answer};
 use cases::{filled, list};
 use counting::Method;
 use model::{Check, value_at};
+use std::io::Write;
 
 fn method_of(label: u32) -> Method {
     match label {
@@ -14,7 +15,7 @@ fn method_of(label: u32) -> Method {
     }
 }
 
-fn one(method: u32, lists: &[u32], counts: &mut [u32]) {
+fn one(output: &mut impl Write, method: u32, lists: &[u32], counts: &mut [u32]) {
     let check = counting::counts(
         method_of(method),
         value_at(lists, 1),
@@ -27,22 +28,27 @@ fn one(method: u32, lists: &[u32], counts: &mut [u32]) {
         list(lists, 7),
         counts,
     );
-    named_answer(method, check, counts);
+    named_answer(output, method, check, counts);
 }
 
-fn filled_one(method: u32, lists: &[u32]) {
+fn filled_one(output: &mut impl Write, method: u32, lists: &[u32]) {
     let mut room = [0; 128];
-    one(method, lists, filled(list(lists, 8), &mut room));
+    one(output, method, lists, filled(list(lists, 8), &mut room));
 }
 
-pub(crate) fn three(lists: &[u32]) {
-    line_end();
-    filled_one(labels::RANGE_QUERY, lists);
-    filled_one(labels::COUNT_AUGMENTATION, lists);
-    filled_one(labels::NEIGHBOR_SHARING, lists);
+pub(crate) fn three(output: &mut impl Write, lists: &[u32]) {
+    line_end(output);
+    filled_one(output, labels::RANGE_QUERY, lists);
+    filled_one(output, labels::COUNT_AUGMENTATION, lists);
+    filled_one(output, labels::NEIGHBOR_SHARING, lists);
 }
 
-fn augment(lists: &[u32], near_first: &mut [u32], near_second: &mut [u32]) {
+fn augment(
+    output: &mut impl Write,
+    lists: &[u32],
+    near_first: &mut [u32],
+    near_second: &mut [u32],
+) {
     let check = count_augmentation::augment(
         value_at(lists, 1),
         list(lists, 1),
@@ -53,15 +59,16 @@ fn augment(lists: &[u32], near_first: &mut [u32], near_second: &mut [u32]) {
         near_first,
         near_second,
     );
-    named_answer(labels::NEAR_FIRST, check, near_first);
-    named(labels::NEAR_SECOND, near_second);
+    named_answer(output, labels::NEAR_FIRST, check, near_first);
+    named(output, labels::NEAR_SECOND, near_second);
 }
 
-pub(crate) fn stored(lists: &[u32]) {
-    line_end();
+pub(crate) fn stored(output: &mut impl Write, lists: &[u32]) {
+    line_end(output);
     let mut first = [0; 16];
     let mut second = [0; 16];
     augment(
+        output,
         lists,
         filled(list(lists, 6), &mut first),
         filled(list(lists, 7), &mut second),
@@ -98,6 +105,7 @@ fn pair_counts(
 }
 
 fn all(
+    output: &mut impl Write,
     lists: &[u32],
     by_range: &mut [u32],
     by_augmentation: &mut [u32],
@@ -113,21 +121,22 @@ fn all(
         positions,
         moves,
     );
-    named_answer(labels::RANGE_QUERY, check, by_range);
-    named(labels::COUNT_AUGMENTATION, by_augmentation);
-    named(labels::NEIGHBOR_SHARING, by_sharing);
-    named(labels::POSITIONS, positions);
-    named(labels::MOVES, moves);
+    named_answer(output, labels::RANGE_QUERY, check, by_range);
+    named(output, labels::COUNT_AUGMENTATION, by_augmentation);
+    named(output, labels::NEIGHBOR_SHARING, by_sharing);
+    named(output, labels::POSITIONS, positions);
+    named(output, labels::MOVES, moves);
 }
 
-pub(crate) fn all_at_once(lists: &[u32]) {
-    line_end();
+pub(crate) fn all_at_once(output: &mut impl Write, lists: &[u32]) {
+    line_end(output);
     let mut first = [0; 16];
     let mut second = [0; 16];
     let mut third = [0; 16];
     let mut fourth = [0; 32];
     let mut fifth = [0; 8];
     all(
+        output,
         lists,
         filled(list(lists, 8), &mut first),
         filled(list(lists, 9), &mut second),

@@ -4,8 +4,9 @@ use crate::labels;
 use crate::show::{line_end, named, named_answer};
 use cases::{filled, list};
 use model::value_at;
+use std::io::Write;
 
-fn sweep(lists: &[u32], positions: &mut [u32], moves: &mut [u32]) {
+fn sweep(output: &mut impl Write, lists: &[u32], positions: &mut [u32], moves: &mut [u32]) {
     let check = sweep::cursors(
         value_at(lists, 1),
         list(lists, 1),
@@ -20,15 +21,16 @@ fn sweep(lists: &[u32], positions: &mut [u32], moves: &mut [u32]) {
         positions,
         moves,
     );
-    named_answer(labels::POSITIONS, check, positions);
-    named(labels::MOVES, moves);
+    named_answer(output, labels::POSITIONS, check, positions);
+    named(output, labels::MOVES, moves);
 }
 
-pub(crate) fn swept(lists: &[u32]) {
-    line_end();
+pub(crate) fn swept(output: &mut impl Write, lists: &[u32]) {
+    line_end(output);
     let mut first = [0; 32];
     let mut second = [0; 8];
     sweep(
+        output,
         lists,
         filled(list(lists, 6), &mut first),
         filled(list(lists, 7), &mut second),

@@ -3,24 +3,33 @@ use crate::show::{named, verdict};
 use crate::{labels, show};
 use cases::{filled, list};
 use model::value_at;
+use std::io::Write;
 
-fn lay_out(edges: &mut [u32], offsets: &mut [u32]) {
-    verdict(layout::lay_out(edges, offsets));
-    named(labels::EDGES, edges);
-    named(labels::OFFSETS, offsets);
+fn lay_out(output: &mut impl Write, edges: &mut [u32], offsets: &mut [u32]) {
+    verdict(output, layout::lay_out(edges, offsets));
+    named(output, labels::EDGES, edges);
+    named(output, labels::OFFSETS, offsets);
 }
 
-pub(crate) fn laid_out(lists: &[u32]) {
+pub(crate) fn laid_out(output: &mut impl Write, lists: &[u32]) {
     let mut first = [0; 8];
     let mut second = [0; 8];
     lay_out(
+        output,
         filled(list(lists, 1), &mut first),
         filled(list(lists, 2), &mut second),
     );
 }
 
 // The events on an edge, and the number and the place told beside them.
-pub(crate) fn stretch(nodes: u32, firsts: &[u32], seconds: &[u32], lengths: &[u32], lists: &[u32]) {
+pub(crate) fn stretch(
+    output: &mut impl Write,
+    nodes: u32,
+    firsts: &[u32],
+    seconds: &[u32],
+    lengths: &[u32],
+    lists: &[u32],
+) {
     let mut number = 9;
     let mut place = 9;
     let found = layout::events_on(
@@ -34,13 +43,13 @@ pub(crate) fn stretch(nodes: u32, firsts: &[u32], seconds: &[u32], lengths: &[u3
         &mut number,
         &mut place,
     );
-    show::entries(found);
-    told(number, place);
+    show::entries(output, found);
+    told(output, number, place);
 }
 
-fn told(number: u32, place: usize) {
-    show::word(b"number and place:");
-    show::number(number as u64);
-    show::number(place as u64);
-    show::line_end();
+fn told(output: &mut impl Write, number: u32, place: usize) {
+    show::word(output, b"number and place:");
+    show::number(output, number as u64);
+    show::number(output, place as u64);
+    show::line_end(output);
 }

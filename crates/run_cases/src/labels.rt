@@ -1,5 +1,6 @@
 // The names of answer lists.
 use crate::show::word;
+use std::io::Write;
 
 pub(crate) const RANGE_QUERY: u32 = 0;
 
@@ -29,46 +30,46 @@ pub(crate) const OFFSETS: u32 = 12;
 
 pub(crate) const THRESHOLDS: u32 = 13;
 
-fn of_counts(list: u32) {
+fn of_counts(output: &mut impl Write, list: u32) {
     match list {
-        RANGE_QUERY => word(b"range query"),
-        COUNT_AUGMENTATION => word(b"count augmentation"),
-        _ => word(b"neighbor sharing"),
+        RANGE_QUERY => word(output, b"range query"),
+        COUNT_AUGMENTATION => word(output, b"count augmentation"),
+        _ => word(output, b"neighbor sharing"),
     }
 }
 
-fn of_events(list: u32) {
+fn of_events(output: &mut impl Write, list: u32) {
     match list {
-        NEAR_FIRST => word(b"no farther from the first end"),
-        NEAR_SECOND => word(b"no farther from the second end"),
-        POSITIONS => word(b"positions"),
-        _ => word(b"moves"),
+        NEAR_FIRST => word(output, b"no farther from the first end"),
+        NEAR_SECOND => word(output, b"no farther from the second end"),
+        POSITIONS => word(output, b"positions"),
+        _ => word(output, b"moves"),
     }
 }
 
-fn of_network(list: u32) {
+fn of_network(output: &mut impl Write, list: u32) {
     match list {
-        FIRST_NODES => word(b"first nodes"),
-        SECOND_NODES => word(b"second nodes"),
-        _ => word(b"lengths"),
+        FIRST_NODES => word(output, b"first nodes"),
+        SECOND_NODES => word(output, b"second nodes"),
+        _ => word(output, b"lengths"),
     }
 }
 
-fn of_text(list: u32) {
+fn of_text(output: &mut impl Write, list: u32) {
     match list {
-        SETS => word(b"sets"),
-        EDGES => word(b"edges"),
-        OFFSETS => word(b"offsets"),
-        _ => word(b"thresholds"),
+        SETS => word(output, b"sets"),
+        EDGES => word(output, b"edges"),
+        OFFSETS => word(output, b"offsets"),
+        _ => word(output, b"thresholds"),
     }
 }
 
 // Prints the name of a list.
-pub(crate) fn label(list: u32) {
+pub(crate) fn label(output: &mut impl Write, list: u32) {
     match list {
-        0..=2 => of_counts(list),
-        3..=6 => of_events(list),
-        7..=9 => of_network(list),
-        _ => of_text(list),
+        0..=2 => of_counts(output, list),
+        3..=6 => of_events(output, list),
+        7..=9 => of_network(output, list),
+        _ => of_text(output, list),
     }
 }

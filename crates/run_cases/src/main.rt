@@ -20,51 +20,50 @@ mod show;
 
 use crate::show::verdict;
 use cases::{list, next_case, numbers};
+use std::io::{Read, Write};
 
 // There are not so many cases.
 const MANY: u32 = 1000;
 
 // What the function of a number says of lists.
-fn on_lists(function: u32, lists: &[u32]) {
+fn on_lists(output: &mut impl Write, function: u32, lists: &[u32]) {
     match function {
-        14 => verdict(validate::check_thresholds(list(lists, 1))),
-        15 => events::laid_out(lists),
-        16 => counts::three(lists),
-        17 => counts::stored(lists),
-        18 => cursors::swept(lists),
-        19 => counts::all_at_once(lists),
-        _ => networks::asked(function, lists),
+        14 => verdict(output, validate::check_thresholds(list(lists, 1))),
+        15 => events::laid_out(output, lists),
+        16 => counts::three(output, lists),
+        17 => counts::stored(output, lists),
+        18 => cursors::swept(output, lists),
+        19 => counts::all_at_once(output, lists),
+        _ => networks::asked(output, function, lists),
     }
 }
 
-fn lists(function: u32, room: &mut [u32]) {
-    let read = numbers(room);
-    on_lists(function, read);
+fn lists(input: &mut impl Read, output: &mut impl Write, function: u32, room: &mut [u32]) {
+    let read = numbers(input, room);
+    on_lists(output, function, read);
 }
 
 // What the function of a number says of a case.
-fn asked(function: u32, room: &mut [u32]) {
+fn asked(input: &mut impl Read, output: &mut impl Write, function: u32, room: &mut [u32]) {
     match function {
-        20..=22 => readers::asked(function, room),
-        23 => printed::asked(room),
-        _ => lists(function, room),
+        20..=22 => readers::asked(input, output, function, room),
+        23 => printed::asked(input, output, room),
+        _ => lists(input, output, function, room),
     }
 }
 
-fn cases(room: &mut [u32]) {
+fn cases(input: &mut impl Read, output: &mut impl Write, room: &mut [u32]) {
     let mut function = 0;
-    let mut left = MANY;
-    while 0 < left {
-        function = next_case(function, room);
+    for _ in 0..MANY {
+        function = next_case(input, output, function, room);
         if function == 0 {
             return;
         }
-        asked(function, room);
-        left -= 1;
+        asked(input, output, function, room);
     }
 }
 
-fn main() {
+fn main(rt: HostRuntime) {
     let mut room = [0; 25000];
-    cases(&mut room);
+    cases(&mut rt.stdin(), &mut rt.stdout(), &mut room);
 }

@@ -1,71 +1,68 @@
-// Printing words, numbers, lists and verdicts.
+// Printing words, numbers, lists and verdicts. A write that fails is passed over.
 use crate::labels::label;
-use libc::STDOUT_FILENO;
 use model::Check;
+use std::io::Write;
 
-pub(crate) fn word(text: &[u8]) {
-    io::write_all(STDOUT_FILENO, text);
+pub(crate) fn word(output: &mut impl Write, text: &[u8]) {
+    let _ = output.write_all(text);
 }
 
-pub(crate) fn line_end() {
-    word(b"\n");
+pub(crate) fn line_end(output: &mut impl Write) {
+    word(output, b"\n");
 }
 
 // A number behind a space.
-pub(crate) fn number(n: u64) {
-    word(b" ");
-    io::print_decimal(STDOUT_FILENO, n);
+pub(crate) fn number(output: &mut impl Write, n: u64) {
+    let _ = write!(output, " {n}");
 }
 
-fn entry(n: u32) {
-    number(n as u64);
+fn entry(output: &mut impl Write, n: u32) {
+    number(output, n as u64);
 }
 
 // The number and the place of a refusal.
-pub(crate) fn refusal(n: u32, place: usize) {
-    word(b" refused");
-    entry(n);
-    number(place as u64);
+pub(crate) fn refusal(output: &mut impl Write, n: u32, place: usize) {
+    word(output, b" refused");
+    entry(output, n);
+    number(output, place as u64);
 }
 
-fn check(verdict: Check) {
+fn check(output: &mut impl Write, verdict: Check) {
     match verdict {
-        Check::Accepted => word(b" accepted"),
-        Check::Refused(n, place) => refusal(n, place),
+        Check::Accepted => word(output, b" accepted"),
+        Check::Refused(n, place) => refusal(output, n, place),
     }
 }
 
 // A verdict, behind the name of what was checked.
-pub(crate) fn verdict(verdict: Check) {
-    check(verdict);
-    line_end();
+pub(crate) fn verdict(output: &mut impl Write, verdict: Check) {
+    check(output, verdict);
+    line_end(output);
 }
 
 // A list, behind a colon, and the line end.
-pub(crate) fn entries(numbers: &[u32]) {
-    word(b":");
-    let mut k = 0;
-    while k < numbers.len() {
-        entry(numbers[k]);
-        k += 1;
+pub(crate) fn entries(output: &mut impl Write, numbers: &[u32]) {
+    word(output, b":");
+    for number in numbers {
+        entry(output, *number);
     }
-    line_end();
+    line_end(output);
 }
 
 // A list behind its name.
-pub(crate) fn named(list: u32, numbers: &[u32]) {
-    label(list);
-    entries(numbers);
+pub(crate) fn named(output: &mut impl Write, list: u32, numbers: &[u32]) {
+    label(output, list);
+    entries(output, numbers);
 }
 
 // A verdict, and the answer list that goes with it.
-pub(crate) fn answer(verdict: Check, numbers: &[u32]) {
-    check(verdict);
-    entries(numbers);
+pub(crate) fn answer(output: &mut impl Write, verdict: Check, numbers: &[u32]) {
+    check(output, verdict);
+    entries(output, numbers);
 }
 
 // The same behind the name of the list.
-pub(crate) fn named_answer(list: u32, verdict: Check, numbers: &[u32]) {
-    label(list);
-    answer(verdict, numbers);
+pub(crate) fn named_answer(output: &mut impl Write, list: u32, verdict: Check, numbers: &[u32]) {
+    label(output, list);
+    answer(output, verdict, numbers);
 }

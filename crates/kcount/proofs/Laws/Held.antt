@@ -3,13 +3,13 @@ use mathlib.Core.List.{List}
 use mathlib.Core.Path.{◌≡◌, sym, ◌∙◌}
 use Prim.Native.Nat.{ℕ, ◌≤◌}
 use native.Mathlib.Omega.{arith}
-use lib.ListN.{length, take}
+use lib.ListN.{length}
 use Rattle.printing.specs.declared.answers.Printed.{Printed}
-use Rattle.printing.specs.declared.answers.Printed.TheVariants.{Bytes, Refused}
+use Rattle.printing.specs.declared.answers.Printed.TheVariants.{Bytes}
 use Rattle.report.specs.Report.{ReportPrinted, report_bytes, report_room}
 use Rattle.report.proofs.Laws.Room.{report-fits, report-short}
 use Rattle.report.proofs.Laws.Table.{front_of}
-use Rattle.kcount.specs.Held.{Held, HeldOfFronts}
+use Rattle.kcount.specs.Held.{Held}
 
 module _ {network reports thresholds out : List ℕ} {r : Printed} {out' : List ℕ} (p : ReportPrinted network reports thresholds out r out') (room : report_room ≤ length out) where
   pub bytes-held : {count : ℕ} → length out' ≡ length out → r ≡ Bytes count → Held network reports thresholds count out'
@@ -19,12 +19,3 @@ module _ {network reports thresholds out : List ℕ} {r : Printed} {out' : List 
         within = omega (arith, report-short network reports thresholds);
         bytes = front_of (report_bytes network reports thresholds) out out' (sym is) p.bytes_are.after (report-fits network reports thresholds out room);
       }
-
-  pub never : {G : Type 0} {number place : ℕ} → r ≡ Refused number place → G
-  never e = absurd (let z : ◌≡◌ {A = ℕ} 0 1 = cc (sym e ∙ p.never_refused room) in omega arith)
-
-pub of-fronts :
-    {network reports thresholds out : List ℕ} {a b c r : ℕ} →
-    a ≤ length network → b ≤ length reports → c ≤ length thresholds → Held (take a network) (take b reports) (take c thresholds) r out → HeldOfFronts network reports thresholds r out
-of-fronts {a} {b} {c} ha hb hc h =
-    record { network_bytes = a; reports_bytes = b; thresholds_bytes = c; network_within = ha; reports_within = hb; thresholds_within = hc; held = h }
