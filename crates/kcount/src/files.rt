@@ -1,10 +1,9 @@
 // A file read whole, and bytes written to standard output. A call that a signal interrupts is made again.
-ghost use Rattle.std.specs.Prelude.{◌≡◌, ◌<◌, ◌≤◌, length, take, IfSome, OnOk};
+ghost use Rattle.std.specs.Prelude.{◌≡◌, ◌<◌, ◌≤◌, length, take, IfSome, IsTrue, OnOk};
 ghost use Rattle.std.specs.Io.KnownBytes.{Appends};
-ghost use Rattle.std.specs.Process.{exit_status};
 
+use std::alloc::Global;
 use std::io::{ErrorKind, Read, Write};
-use std::process::ExitCode;
 use std::rt::Files;
 use std::{fs, io};
 
@@ -68,15 +67,34 @@ fn write_all<W: Write>(out: &mut W, bytes: &[u8]) -> io::Result<()>
     Err(io::Error::from(ErrorKind::WriteZero))
 }
 
-// Writes the bytes, and answers the status that the program ends with. If a write fails, one line on standard error says so and why.
-pub(crate) fn print<W: Write>(out: &mut W, errors: &impl Eprint, bytes: &[u8]) -> ExitCode
-    ensures { exit_status result ≡ 0 → Appends (W.contents out.old) (W.contents out.new) bytes.now }
+// One line on standard error says that the output was not written, and why: the system's reason, without the number that the library
+// puts behind it.
+fn tell<E: Eprint>(errors: &E, alloc: Global, e: io::Error) {
+    let _ = match format!(in alloc; "{e}") {
+        Ok(text) => match text.split_once(" (os error ") {
+            Some((reason, _)) => eprintln!(errors;
+                "kcount: the output was not written in full: {reason}"
+            ),
+            None => eprintln!(errors; "kcount: the output was not written in full: {text}"),
+        },
+        Err(_) => eprintln!(errors; "kcount: the output was not written in full: {e}"),
+    };
+}
+
+// Writes the bytes, and answers whether that was done. If a write fails, one line on standard error says so and why.
+pub(crate) fn print<W: Write, E: Eprint>(
+    out: &mut W,
+    errors: &E,
+    alloc: Global,
+    bytes: &[u8],
+) -> bool
+    ensures { IsTrue result → Appends (W.contents out.old) (W.contents out.new) bytes.now }
 {
     match write_all(out, bytes) {
-        Ok(()) => ExitCode::SUCCESS,
+        Ok(()) => true,
         Err(e) => {
-            let _ = eprintln!(errors; "kcount: the output was not written in full: {e}");
-            ExitCode::FAILURE
+            tell(errors, alloc, e);
+            false
         }
     }
 }

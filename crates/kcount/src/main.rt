@@ -8,7 +8,6 @@ ghost use Rattle.report.specs.Report.{report_room};
 ghost use Rattle.kcount.specs.Held.{Held, HeldOfFronts, RoomToRead};
 
 use printing::Printed;
-use std::process::ExitCode;
 use std::rt::Files;
 
 // One byte more than a text may have, so that a longer one is refused and not cut off.
@@ -44,11 +43,11 @@ fn run(
     fill(&network[..a], &reports[..b], &thresholds[..c], out)
 }
 
-fn main(rt: HostRuntime) -> ExitCode {
+fn main(rt: HostRuntime) {
     let mut network = [0u8; TEXT];
     let mut reports = [0u8; TEXT];
     let mut thresholds = [0u8; TEXT];
     let mut out = [0u8; report::REPORT_ROOM];
     let count = run(&rt, &mut network, &mut reports, &mut thresholds, &mut out);
-    files::print(&mut rt.stdout(), &rt, &out[..count])
+    files::print(&mut rt.stdout(), &rt, rt.alloc(), &out[..count]);
 }
