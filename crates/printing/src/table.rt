@@ -71,6 +71,7 @@ fn rows_fit(
 }
 
 // 2: columns that differ in length from the thresholds; least and greatest are looked at where there are comparison sets.
+#[tactic(auto, using(crate::proofs::Laws::Verdict::column_verdicts))]
 fn check_columns(
     comparisons: bool,
     thresholds: &[u32],

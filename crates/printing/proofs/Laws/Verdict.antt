@@ -121,3 +121,6 @@ module _ (comparisons : Bool) (ts observed lower upper out : List ℕ) where
       let from-columns = both-accepted _ _ e in
       let from-room = both-accepted _ _ from-columns.1 in
       room-at-front _ out (room-accepted _ out from-room.0)
+
+-- the verdicts on columns, for the check to pick from
+pub ruleset column_verdicts = (differs-observed, observed-alone, differs-lower, differs-upper, all_same)
