@@ -1,4 +1,4 @@
-// Cases that stand in standard input. What is read no contract can say, so the functions that read promise bounds.
+// Cases that a program reads from its standard input. The functions that read promise how much they answer, and not what they read.
 //
 // A section begins with the number of the function that its cases are about; an empty line follows. A case begins with its name in a line
 // of its own; an empty line in place of a name ends the section. Behind the name stand texts and lists, as the function asks for.

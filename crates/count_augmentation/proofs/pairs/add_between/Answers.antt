@@ -6,7 +6,12 @@ use native.Mathlib.Omega.{arith}
 use lib.ListN.{get_or}
 use Rattle.count_augmentation.specs.LookUp.{looked_part}
 use Rattle.count_augmentation.proofs.Laws.Thresholds.{adding-begins, adding-next, adding-ends}
+use Rattle.count_augmentation.proofs.pairs.add_between.Goals.{After-count_part-found}
 use Rattle.count_augmentation.proofs.pairs.add_between.Goals as goal
+
+-- what is looked up at the threshold at hand
+found : (c : After-count_part-found) → c.count_part-found.result ≡ looked_part c.args.edges (get_or c.args.thresholds.now c.loop-k.k 0) c.args.x c.args.ys.now c.args.near_first.now c.args.near_second.now
+found c = c.count_part-found.ensures.0 ∙ ap (λ (t : ℕ). looked_part c.args.edges t c.args.x c.args.ys.now c.args.near_first.now c.args.near_second.now) c.value_at-threshold.ensures
 
 pub loop-k-init : goal.loop-k-init
 loop-k-init c = (refl, λ at. adding-begins at _ _)
@@ -21,9 +26,9 @@ pub loop-k-smaller : goal.loop-k-smaller
 loop-k-smaller c = omega (arith, c.loop-k-test.true)
 
 pub loop-k-preserved : goal.loop-k-preserved
-loop-k-preserved c = let found : c.count_part-found.result ≡ looked_part c.args.edges (get_or c.args.thresholds.now c.loop-k.k 0) c.args.x c.args.ys.now c.args.near_first.now c.args.near_second.now = c.count_part-found.ensures.0 ∙ ap (λ (t : ℕ). looked_part c.args.edges t c.args.x c.args.ys.now c.args.near_first.now c.args.near_second.now) c.value_at-threshold.ensures in (
+loop-k-preserved c = (
   c.change_from.ensures.same_length ∙ c.loop-k.invariant.0,
-  λ at. adding-next at (c.loop-k.invariant.1 at) c.loop-k-test.true found refl c.change_from.ensures,
+  λ at. adding-next at (c.loop-k.invariant.1 at) c.loop-k-test.true (found (goal.at.loop-k-preserved c).After-count_part-found) refl c.change_from.ensures,
 )
 
 pub overflow_mul-rest : goal.overflow_mul-rest

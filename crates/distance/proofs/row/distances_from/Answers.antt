@@ -11,7 +11,12 @@ use Rattle.distance.proofs.Verdicts.{row-accepted}
 use Rattle.model.proofs.Laws.Answer.{written-refused, written-accepted}
 use Rattle.model.proofs.Laws.Refusal.{not-accepted}
 use borrow.Author.Rules.{rules}
+use Rattle.distance.proofs.row.distances_from.Goals.{In_default}
 use Rattle.distance.proofs.row.distances_from.Goals as goal
+
+-- past the check
+accepted : (c : In_default) → row_check (network c.args.nodes c.args.firsts.now c.args.seconds.now c.args.lengths.now) c.args.source c.args.answers.now ≡ Accepted
+accepted c = sym c.check_row-verdict.ensures ∙ c.in_default.is
 
 pub returns-in-Refused : goal.returns-in-Refused
 returns-in-Refused c = let verdict = c.check_row-verdict.ensures in
@@ -24,16 +29,14 @@ returns-in-Refused c = let verdict = c.check_row-verdict.ensures in
     }
 
 pub write_row-requires : goal.write_row-requires
-write_row-requires c = let accepted : row_check (network c.args.nodes c.args.firsts.now c.args.seconds.now c.args.lengths.now) c.args.source c.args.answers.now ≡ Accepted = sym c.check_row-verdict.ensures ∙ c.in_default.is in
-    let a = row-accepted _ _ _ accepted in
+write_row-requires c = let a = row-accepted _ _ _ (accepted (goal.at.write_row-requires c).In_default) in
     record { askable = askable a.1.is-network a.1.first-node (search rules); nodes_in_bounds = a.0 }
 
 pub returns : goal.returns
-returns c = let accepted : row_check (network c.args.nodes c.args.firsts.now c.args.seconds.now c.args.lengths.now) c.args.source c.args.answers.now ≡ Accepted = sym c.check_row-verdict.ensures ∙ c.in_default.is in
-    let filled = c.write_row.ensures in
+returns c = let filled = c.write_row.ensures in
     record {
       verdict = c.check_row-verdict.ensures;
-      after = written-accepted _ _ _ accepted (row-length _ _ _) filled.answers_after;
+      after = written-accepted _ _ _ (accepted (goal.at.returns c).In_default) (row-length _ _ _) filled.answers_after;
       small = λ e. searched-small filled.searched;
       whole = λ e. searched-whole filled.searched;
     }

@@ -10,8 +10,12 @@ use Rattle.model.proofs.Laws.Zeros.{cleared}
 use lib.ListN.{length, length-set}
 use mathlib.Core.Path.{◌≡◌, ◌∙◌, refl}
 use native.Mathlib.Omega.{arith}
-use Rattle.distance.proofs.search.search_with.Goals.{then-len-eq0, else-len-eq0+then-bound-least}
+use Rattle.distance.proofs.search.search_with.Goals.{Else-len-eq0, then-len-eq0, else-len-eq0+then-bound-least}
 use Rattle.distance.proofs.search.search_with.Goals as goal
+
+-- the scan has found the least key
+found : (c : Else-len-eq0) → Least c.picking.keys c.picking.len 0 c.picking.len c.loop-k.key
+found c = ends_at (c.loop-k.invariant.1 (omega (arith, c.if-len-eq0.false))) c.if-k-len.true
 
 pub bounds-dist-source : goal.bounds-dist-source
 bounds-dist-source c = omega (arith, c.requires.ready.room, c.requires.ready.source_is.to_nodes, c.clear.auto.list)
@@ -53,29 +57,24 @@ pub loop-k-preserved : goal.loop-k-preserved
 loop-k-preserved c = (omega (arith, c.loop-k.invariant.0, c.if-k-len.false), λ some. join (c.loop-k.invariant.1 some) (one_key _ _ _ _ (omega (arith, c.loop-k.invariant.0, c.if-k-len.false)) refl) c.lesser-key.ensures)
 
 pub overflow_sub-least : goal.overflow_sub-least
-overflow_sub-least c = let found : Least c.picking.keys c.picking.len 0 c.picking.len c.loop-k.key = ends_at (c.loop-k.invariant.1 (omega (arith, c.if-len-eq0.false))) c.if-k-len.true in
-    omega (arith, nearest-reached c.picking.invariant.0 (turn-nearest c.picking.invariant.0 found refl c.entry_of-least.ensures))
+overflow_sub-least c = omega (arith, nearest-reached c.picking.invariant.0 (turn-nearest c.picking.invariant.0 (found (goal.at.overflow_sub-least c).Else-len-eq0) refl c.entry_of-least.ensures))
 
 pub offset_bounds-front-best : goal.offset_bounds-front-best
-offset_bounds-front-best c = let found : Least c.picking.keys c.picking.len 0 c.picking.len c.loop-k.key = ends_at (c.loop-k.invariant.1 (omega (arith, c.if-len-eq0.false))) c.if-k-len.true in
-    omega (arith, waits c.picking.invariant.0 c.place_of-best.result (turn-nearest c.picking.invariant.0 found c.place_of-best.ensures c.entry_of-least.ensures).inside)
+offset_bounds-front-best c = omega (arith, waits c.picking.invariant.0 c.place_of-best.result (turn-nearest c.picking.invariant.0 (found (goal.at.offset_bounds-front-best c).Else-len-eq0) c.place_of-best.ensures c.entry_of-least.ensures).inside)
 
 pub bounds-front-best : goal.bounds-front-best
-bounds-front-best c = let found : Least c.picking.keys c.picking.len 0 c.picking.len c.loop-k.key = ends_at (c.loop-k.invariant.1 (omega (arith, c.if-len-eq0.false))) c.if-k-len.true in
-    omega (arith, waits c.picking.invariant.0 c.place_of-best.result (turn-nearest c.picking.invariant.0 found c.place_of-best.ensures c.entry_of-least.ensures).inside)
+bounds-front-best c = omega (arith, waits c.picking.invariant.0 c.place_of-best.result (turn-nearest c.picking.invariant.0 (found (goal.at.bounds-front-best c).Else-len-eq0) c.place_of-best.ensures c.entry_of-least.ensures).inside)
 
 pub remove-requires : goal.remove-requires
-remove-requires c = let found : Least c.picking.keys c.picking.len 0 c.picking.len c.loop-k.key = ends_at (c.loop-k.invariant.1 (omega (arith, c.if-len-eq0.false))) c.if-k-len.true in
-    let r = removable c.picking.invariant.0 (turn-nearest c.picking.invariant.0 found c.place_of-best.ensures c.entry_of-least.ensures) (c.picking.len - 1) (omega arith) in
+remove-requires c = let r = removable c.picking.invariant.0 (turn-nearest c.picking.invariant.0 (found (goal.at.remove-requires c).Else-len-eq0) c.place_of-best.ensures c.entry_of-least.ensures) (c.picking.len - 1) (omega arith) in
     record { place_le_last = r.0; last_in_bounds = r.1 }
 
 pub overflow_add-picked : goal.overflow_add-picked
 overflow_add-picked c = omega (arith, all-few c.picking.invariant.0)
 
 pub follow-len-requires : goal.follow-len-requires
-follow-len-requires c = let found : Least c.picking.keys c.picking.len 0 c.picking.len c.loop-k.key = ends_at (c.loop-k.invariant.1 (omega (arith, c.if-len-eq0.false))) c.if-k-len.true in
-    let t = c.picking.invariant.0 in
-    let x = (turn-nearest c.picking.invariant.0 found c.place_of-best.ensures c.entry_of-least.ensures) in
+follow-len-requires c = let t = c.picking.invariant.0 in
+    let x = (turn-nearest c.picking.invariant.0 (found (goal.at.follow-len-requires c).Else-len-eq0) c.place_of-best.ensures c.entry_of-least.ensures) in
     let last : c.picking.len ≡ suc (c.picking.len - 1) = omega arith in
     record {
       ready = turn-ready t x last c.remove.ensures;

@@ -8,7 +8,12 @@ use Rattle.prepare.proofs.Laws.Kept.{kept-all, part-behind}
 use Rattle.prepare.proofs.Laws.Groups.{start_first}
 use Rattle.prepare.proofs.Laws.Laying.{none-laid, set-end, set-fits, next_start, next-laid}
 use borrow.Rule.Slice.PartMut.{same_len_mid}
+use Rattle.prepare.proofs.sets.lay_sets.Goals.{In-loop-s}
 use Rattle.prepare.proofs.sets.lay_sets.Goals as goal
+
+-- the set that is laid out next ends within the lists
+end-within : (c : In-loop-s) → c.loop-s.start + set_size c.args.sets.now c.loop-s.s ≤ start_of c.args.sets.now c.args.count
+end-within c = set-end _ _ _ _ _ _ _ c.requires _ _ _ _ _ c.loop-s.invariant.0 c.loop-s.invariant.1 (c.loop-s.invariant.2 ∙ simp length-set) c.loop-s.invariant.4 c.loop-s.invariant.6 (omega arith)
 
 pub loop-s-init : goal.loop-s-init
 loop-s-init c = (refl, refl, refl, omega arith, sym (start_first _), omega arith, none-laid _ _ _ _ _ c.args.starts.now (omega arith), kept-all _ _, kept-all _ _)
@@ -36,20 +41,19 @@ pub bounds-starts-s : goal.bounds-starts-s
 bounds-starts-s c = omega (arith, simp length-set at c.loop-s.invariant.2, c.requires.starts_room)
 
 pub loop-s-preserved : goal.loop-s-preserved
-loop-s-preserved c = let end-within : c.loop-s.start + set_size c.args.sets.now c.loop-s.s ≤ start_of c.args.sets.now c.args.count = set-end _ _ _ _ _ _ _ c.requires _ _ _ _ _ c.loop-s.invariant.0 c.loop-s.invariant.1 (c.loop-s.invariant.2 ∙ simp length-set) c.loop-s.invariant.4 c.loop-s.invariant.6 (omega arith) in
-    let end = end-within in (
-      same_len_mid c.loop-s.start (length c.loop-s.laid_edges - c.loop-s.start) c.loop-s.laid_edges c.lay_set-start.new.laid_edges c.lay_set-start.auto.laid_edges ∙ c.loop-s.invariant.0,
-      same_len_mid c.loop-s.start (length c.loop-s.laid_offsets - c.loop-s.start) c.loop-s.laid_offsets c.lay_set-start.new.laid_offsets c.lay_set-start.auto.laid_offsets ∙ c.loop-s.invariant.1,
-      simp length-set (c.loop-s.invariant.2 ∙ simp length-set),
-      omega arith,
-      next_start _ _ _ _ _ _ _ c.requires _ _ _ _ _ c.loop-s.invariant.0 c.loop-s.invariant.1 (c.loop-s.invariant.2 ∙ simp length-set) c.loop-s.invariant.4 c.loop-s.invariant.6 (omega arith) _ _ _
-          c.lay_set-start.auto.laid_edges c.lay_set-start.auto.laid_offsets c.lay_set-start.ensures.set_laid,
-      omega (arith, c.lay_set-start.ensures.set_laid.many),
-      next-laid _ _ _ _ _ _ _ c.requires _ _ _ _ _ c.loop-s.invariant.0 c.loop-s.invariant.1 (c.loop-s.invariant.2 ∙ simp length-set) c.loop-s.invariant.4 c.loop-s.invariant.6 (omega arith) _ _ _
-          c.lay_set-start.auto.laid_edges c.lay_set-start.auto.laid_offsets c.lay_set-start.ensures.set_laid,
-      part-behind c.loop-s.start c.lay_set-start.result c.loop-s.laid_edges (omega (arith, c.lay_set-start.ensures.set_laid.many)) c.lay_set-start.auto.laid_edges c.loop-s.invariant.7 c.lay_set-start.ensures.kept_from.0,
-      part-behind c.loop-s.start c.lay_set-start.result c.loop-s.laid_offsets (omega (arith, c.lay_set-start.ensures.set_laid.many)) c.lay_set-start.auto.laid_offsets c.loop-s.invariant.8 c.lay_set-start.ensures.kept_from.1,
-    )
+loop-s-preserved c = let end = (end-within (goal.at.loop-s-preserved c).In-loop-s) in (
+  same_len_mid c.loop-s.start (length c.loop-s.laid_edges - c.loop-s.start) c.loop-s.laid_edges c.lay_set-start.new.laid_edges c.lay_set-start.auto.laid_edges ∙ c.loop-s.invariant.0,
+  same_len_mid c.loop-s.start (length c.loop-s.laid_offsets - c.loop-s.start) c.loop-s.laid_offsets c.lay_set-start.new.laid_offsets c.lay_set-start.auto.laid_offsets ∙ c.loop-s.invariant.1,
+  simp length-set (c.loop-s.invariant.2 ∙ simp length-set),
+  omega arith,
+  next_start _ _ _ _ _ _ _ c.requires _ _ _ _ _ c.loop-s.invariant.0 c.loop-s.invariant.1 (c.loop-s.invariant.2 ∙ simp length-set) c.loop-s.invariant.4 c.loop-s.invariant.6 (omega arith) _ _ _
+      c.lay_set-start.auto.laid_edges c.lay_set-start.auto.laid_offsets c.lay_set-start.ensures.set_laid,
+  omega (arith, c.lay_set-start.ensures.set_laid.many),
+  next-laid _ _ _ _ _ _ _ c.requires _ _ _ _ _ c.loop-s.invariant.0 c.loop-s.invariant.1 (c.loop-s.invariant.2 ∙ simp length-set) c.loop-s.invariant.4 c.loop-s.invariant.6 (omega arith) _ _ _
+      c.lay_set-start.auto.laid_edges c.lay_set-start.auto.laid_offsets c.lay_set-start.ensures.set_laid,
+  part-behind c.loop-s.start c.lay_set-start.result c.loop-s.laid_edges (omega (arith, c.lay_set-start.ensures.set_laid.many)) c.lay_set-start.auto.laid_edges c.loop-s.invariant.7 c.lay_set-start.ensures.kept_from.0,
+  part-behind c.loop-s.start c.lay_set-start.result c.loop-s.laid_offsets (omega (arith, c.lay_set-start.ensures.set_laid.many)) c.lay_set-start.auto.laid_offsets c.loop-s.invariant.8 c.lay_set-start.ensures.kept_from.1,
+)
 
 pub shape_of-starts : goal.shape_of-starts
 shape_of-starts c = c.loop-s.invariant.2 ∙ simp length-set

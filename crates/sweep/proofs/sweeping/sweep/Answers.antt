@@ -6,28 +6,33 @@ use Rattle.sweep.specs.Sweeping.{standing, Movable}
 use Rattle.sweep.proofs.Laws.Moving.{moved-on-stands}
 use Rattle.sweep.proofs.Laws.Step.{begin, can-move, turn, moved-few, swept-few, swept}
 use native.Mathlib.Omega.{arith}
+use Rattle.sweep.proofs.sweeping.sweep.Goals.{After-apart, In-loop-i}
 use Rattle.sweep.proofs.sweeping.sweep.Goals as goal
+
+can : (c : In-loop-i) → Movable c.args.cursor c.args.long c.args.ys.now (get_or c.args.xs.now c.loop-i.i 0) c.loop-i.position
+can c = can-move _ _ _ _ _ _ _ _ _ c.requires c.loop-i.invariant c.loop-i-test.true
+
+stands : (c : After-apart) → c.advance-next.result ≡ standing c.args.cursor c.args.long c.args.ys.now (get_or c.args.xs.now c.loop-i.i 0)
+stands c =
+    let can : Movable c.args.cursor c.args.long c.args.ys.now (get_or c.args.xs.now c.loop-i.i 0) c.loop-i.position = can-move _ _ _ _ _ _ _ _ _ c.requires c.loop-i.invariant c.loop-i-test.true in
+    c.advance-next.ensures ∙ moved-on-stands _ _ _ _ can
+
+moved : (c : After-apart) → (c.loop-i.moves + c.apart.result ≤ length c.args.ys.now) × (c.advance-next.result ≤ length c.args.ys.now)
+moved c =
+    let can : Movable c.args.cursor c.args.long c.args.ys.now (get_or c.args.xs.now c.loop-i.i 0) c.loop-i.position = can-move _ _ _ _ _ _ _ _ _ c.requires c.loop-i.invariant c.loop-i-test.true in
+    moved-few _ _ _ _ _ _ _ _ _ _ c.loop-i.invariant can (stands c) c.apart.ensures
 
 pub loop-i-init : goal.loop-i-init
 loop-i-init c = rw c.rest-position.ensures (begin _ _ _ _ _ c.requires)
 
 pub overflow_add-moves : goal.overflow_add-moves
-overflow_add-moves c = let can : Movable c.args.cursor c.args.long c.args.ys.now (get_or c.args.xs.now c.loop-i.i 0) c.loop-i.position = can-move _ _ _ _ _ _ _ _ _ c.requires c.loop-i.invariant c.loop-i-test.true in
-    let stands : c.advance-next.result ≡ standing c.args.cursor c.args.long c.args.ys.now (get_or c.args.xs.now c.loop-i.i 0) = c.advance-next.ensures ∙ moved-on-stands _ _ _ _ can in
-    let moved : (c.loop-i.moves + c.apart.result ≤ length c.args.ys.now) × (c.advance-next.result ≤ length c.args.ys.now) = moved-few _ _ _ _ _ _ _ _ _ _ c.loop-i.invariant can stands c.apart.ensures in
-    omega (arith, moved, c.requires.few)
+overflow_add-moves c = omega (arith, (moved c), c.requires.few)
 
 pub overflow_cast-positions : goal.overflow_cast-positions
-overflow_cast-positions c = let can : Movable c.args.cursor c.args.long c.args.ys.now (get_or c.args.xs.now c.loop-i.i 0) c.loop-i.position = can-move _ _ _ _ _ _ _ _ _ c.requires c.loop-i.invariant c.loop-i-test.true in
-    let stands : c.advance-next.result ≡ standing c.args.cursor c.args.long c.args.ys.now (get_or c.args.xs.now c.loop-i.i 0) = c.advance-next.ensures ∙ moved-on-stands _ _ _ _ can in
-    let moved : (c.loop-i.moves + c.apart.result ≤ length c.args.ys.now) × (c.advance-next.result ≤ length c.args.ys.now) = moved-few _ _ _ _ _ _ _ _ _ _ c.loop-i.invariant can stands c.apart.ensures in
-    omega (arith, moved, c.requires.few)
+overflow_cast-positions c = omega (arith, (moved c), c.requires.few)
 
 pub overflow_add-positions : goal.overflow_add-positions
-overflow_add-positions c = let can : Movable c.args.cursor c.args.long c.args.ys.now (get_or c.args.xs.now c.loop-i.i 0) c.loop-i.position = can-move _ _ _ _ _ _ _ _ _ c.requires c.loop-i.invariant c.loop-i-test.true in
-    let stands : c.advance-next.result ≡ standing c.args.cursor c.args.long c.args.ys.now (get_or c.args.xs.now c.loop-i.i 0) = c.advance-next.ensures ∙ moved-on-stands _ _ _ _ can in
-    let moved : (c.loop-i.moves + c.apart.result ≤ length c.args.ys.now) × (c.advance-next.result ≤ length c.args.ys.now) = moved-few _ _ _ _ _ _ _ _ _ _ c.loop-i.invariant can stands c.apart.ensures in
-    omega (arith, moved, c.requires.few)
+overflow_add-positions c = omega (arith, (moved c), c.requires.few)
 
 pub bounds-positions-i : goal.bounds-positions-i
 bounds-positions-i c = omega (arith, c.loop-i.invariant.room)
@@ -39,9 +44,7 @@ pub loop-i-smaller : goal.loop-i-smaller
 loop-i-smaller c = omega arith
 
 pub loop-i-preserved : goal.loop-i-preserved
-loop-i-preserved c = let can : Movable c.args.cursor c.args.long c.args.ys.now (get_or c.args.xs.now c.loop-i.i 0) c.loop-i.position = can-move _ _ _ _ _ _ _ _ _ c.requires c.loop-i.invariant c.loop-i-test.true in
-    let stands : c.advance-next.result ≡ standing c.args.cursor c.args.long c.args.ys.now (get_or c.args.xs.now c.loop-i.i 0) = c.advance-next.ensures ∙ moved-on-stands _ _ _ _ can in
-    turn _ _ _ _ _ _ _ _ _ _ c.loop-i.invariant can c.loop-i-test.true stands c.apart.ensures
+loop-i-preserved c = turn _ _ _ _ _ _ _ _ _ _ c.loop-i.invariant (can (goal.at.loop-i-preserved c).In-loop-i) c.loop-i-test.true (stands c) c.apart.ensures
 
 pub overflow_cast-result : goal.overflow_cast-result
 overflow_cast-result c = omega (arith, swept-few _ _ _ _ _ _ _ _ c.loop-i.invariant, c.requires.few)

@@ -6,31 +6,32 @@ use Rattle.model.proofs.Laws.Refusal.{scan_begins, scan-goes-on, scan-stops, sca
 use Rattle.model.specs.Checks.{equal_sets_check}
 use Rattle.model.specs.Limits.{max_set}
 use Rattle.validate.proofs.SetSizes.{greatest-small}
+use Rattle.validate.proofs.sets.check_equal_sets.Goals.{In-loop-s}
 use Rattle.validate.proofs.sets.check_equal_sets.Goals as goal
+
+-- the set looked at has a size
+bound : (c : In-loop-s) → c.loop-s.s ≤ max_set
+bound c = omega (arith, c.greatest_set-greatest.ensures, greatest-small c.args.sets.now max_set c.requires)
 
 pub loop-s-init : goal.loop-s-init
 loop-s-init c = scan_begins _ _ _ _
 
 pub offset_bounds-sizes-s : goal.offset_bounds-sizes-s
-offset_bounds-sizes-s c = let bound : c.loop-s.s ≤ max_set = omega (arith, c.greatest_set-greatest.ensures, greatest-small c.args.sets.now max_set c.requires) in
-    omega (arith, bound)
+offset_bounds-sizes-s c = omega (arith, c.greatest_set-greatest.ensures, greatest-small c.args.sets.now max_set c.requires)
 
 pub bounds-sizes-s : goal.bounds-sizes-s
-bounds-sizes-s c = let bound : c.loop-s.s ≤ max_set = omega (arith, c.greatest_set-greatest.ensures, greatest-small c.args.sets.now max_set c.requires) in
-    omega (arith, bound)
+bounds-sizes-s c = omega (arith, c.greatest_set-greatest.ensures, greatest-small c.args.sets.now max_set c.requires)
 
 pub returns-then-sizes-s : goal.returns-then-sizes-s
 unfolding equal_sets_check
-returns-then-sizes-s c = let bound : c.loop-s.s ≤ max_set = omega (arith, c.greatest_set-greatest.ensures, greatest-small c.args.sets.now max_set c.requires) in
-    let size = c.count_sets-sizes.ensures in
+returns-then-sizes-s c = let size = c.count_sets-sizes.ensures in
     sym (scan-stops _ _ c.loop-s.invariant (omega (arith, c.greatest_set-greatest.ensures))
-    (ne_eqb _ _ (λ e. c.if-sizes-s.true (size _ bound ∙ e ∙ sym (size 0 (omega arith))))))
+    (ne_eqb _ _ (λ e. c.if-sizes-s.true (size _ (bound (goal.at.returns-then-sizes-s c).In-loop-s) ∙ e ∙ sym (size 0 (omega arith))))))
 
 pub loop-s-preserved : goal.loop-s-preserved
-loop-s-preserved c = let bound : c.loop-s.s ≤ max_set = omega (arith, c.greatest_set-greatest.ensures, greatest-small c.args.sets.now max_set c.requires) in
-    let size = c.count_sets-sizes.ensures in
+loop-s-preserved c = let size = c.count_sets-sizes.ensures in
     scan-goes-on _ _ c.loop-s.invariant (omega (arith, c.greatest_set-greatest.ensures))
-    (eq-eqb _ _ (sym (size _ bound) ∙ c.if-sizes-s.false ∙ size 0 (omega arith)))
+    (eq-eqb _ _ (sym (size _ (bound (goal.at.loop-s-preserved c).In-loop-s)) ∙ c.if-sizes-s.false ∙ size 0 (omega arith)))
 
 pub returns : goal.returns
 unfolding equal_sets_check
