@@ -1,4 +1,4 @@
 -- Facts that belong to no one function.
-mod Answered
 mod Asking
+mod Distances
 mod Routes

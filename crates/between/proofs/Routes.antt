@@ -1,42 +1,30 @@
--- Entries of routes: one with its gaps, and the least of all.
-use mathlib.Core.Path.{◌≡◌, ◌∙◌, refl, ap, subst}
-use Prim.Native.Nat.{ℕ, zero, suc, pred, ◌+◌, ◌-◌, ◌≤◌, ◌<◌}
+-- Routes between two offsets: the two from an end, the least of all, and what reading at an edge rests on.
+use Rattle.std.specs.Prelude.{Option}
+use mathlib.Core.Path.{◌≡◌, ◌∙◌, ap, subst}
+use Prim.Native.Nat.{ℕ, pred, ◌-◌, ◌≤◌, ◌<◌}
 use native.Mathlib.Omega.{arith}
 use lib.Dec.{eqb}
 use lib.ListN.{length}
 use Rattle.model.proofs.Laws.Checks.{IsNetwork, LocationsAccepted, network-accepted, network-accepts}
-use Rattle.model.proofs.Laws.Codes.{decode-code}
 use Rattle.model.proofs.Laws.Distance.{least-none}
 use Rattle.model.proofs.Laws.Location.{edge-distance}
-use Rattle.model.specs.Distance.{Distance, metres, least, plus, least_of, code, decode}
+use Rattle.model.specs.Distance.{least, least_of}
 use Rattle.model.specs.Events.{event, IsEvent}
 use Rattle.model.specs.Limits.{max_length, max_nodes}
 use Rattle.model.specs.Location.{End, end, edge_ends, route, routes, edge_distance, location_of, location_distance_of, along_edge_of}
 use Rattle.model.specs.Network.{Network, IsNode, first, second, size}
+use Rattle.between.specs.Answers.{metres_of}
 use Rattle.between.specs.Routes.{from_end_of, OnEdge}
 
--- an entry with its gaps
-pub no-route : (near entry far : ℕ) → entry ≡ 0 → 0 ≡ code (plus (plus (metres near) (decode entry)) (metres far))
-unfolding code decode plus
-no-route near entry far e = rw e
-
-pub a-route : (near entry far : ℕ) → (entry ≡ 0 → ⊥) → near + entry + far ≡ code (plus (plus (metres near) (decode entry)) (metres far))
-unfolding code decode plus
-a-route near zero far s = absurd (s refl)
-a-route near (suc n) far s = omega arith
-
-pub route-code : {r entry : ℕ} (near far : ℕ) (d : Distance) → entry ≡ code d → r ≡ code (plus (plus (metres near) (decode entry)) (metres far)) → r ≡ code (plus (plus (metres near) d) (metres far))
-route-code near far d e f = f ∙ ap (λ (x : Distance). code (plus (plus (metres near) x) (metres far))) (ap decode e ∙ decode-code d)
-
 -- from an end there are two routes
-pub from-end-code : {r : ℕ} (net : Network) (a : End) (j y : ℕ) → r ≡ code (least (route net a (end (first net j) y)) (route net a (end (second net j) (size net j - y)))) → r ≡ code (from_end_of net a j y)
+pub from-end-is : {r : Option ℕ} (net : Network) (a : End) (j y : ℕ) → r ≡ metres_of (least (route net a (end (first net j) y)) (route net a (end (second net j) (size net j - y)))) → r ≡ metres_of (from_end_of net a j y)
 unfolding from_end_of edge_ends least_of
-from-end-code net a j y e = rw least-none e
+from-end-is net a j y e = rw least-none e
 
 -- the least of all
-pub edge-code : {r : ℕ} (net : Network) (i x j y : ℕ) → r ≡ code (least (least (from_end_of net (end (first net i) x) j y) (from_end_of net (end (second net i) (size net i - x)) j y)) (along_edge_of (eqb i j) x y)) → r ≡ code (edge_distance net i x j y)
+pub edge-is : {r : Option ℕ} (net : Network) (i x j y : ℕ) → r ≡ metres_of (least (least (from_end_of net (end (first net i) x) j y) (from_end_of net (end (second net i) (size net i - x)) j y)) (along_edge_of (eqb i j) x y)) → r ≡ metres_of (edge_distance net i x j y)
 unfolding edge_distance from_end_of routes edge_ends
-edge-code net i x j y e = rw (least-none (least_of _)) e
+edge-is net i x j y e = rw (least-none (least_of _)) e
 
 -- what the code's reads at an edge rest on
 pub record AtEdge (net : Network) (i x : ℕ) : Type 0 where

@@ -2,7 +2,7 @@
 use mathlib.Core.List.{List, [], ◌∷◌}
 use mathlib.Core.Path.{◌≡◌, sym, ap, ◌∙◌}
 use Prim.Native.Nat.{ℕ, zero, suc, ◌+◌, ◌-◌, ◌≤◌, ◌<◌, min}
-use native.Mathlib.Nat.{zero-min, suc-min-suc, add-zero, sub-zero}
+use native.Mathlib.Nat.{zero-min, suc-min-suc, add-zero}
 use native.Mathlib.Omega.{arith}
 use lib.ListN.{length, get_or, take, drop, length-drop, drop_of_length-le}
 use lib.Seq.{take-nil, drop-nil, get_or-drop, drop-drop}
@@ -24,9 +24,6 @@ pub record Passed (lists : List ℕ) (number at k : ℕ) : Type 0 where
   pub inside : at ≤ length lists
   pub counted : k ≤ number
   pub onward : list_of number lists ≡ list_of (number - k) (drop at lists)
-
-pub passed_none : (lists : List ℕ) (number : ℕ) → Passed lists number 0 0
-passed_none lists number = record { inside = omega arith; counted = omega arith; onward = simp sub-zero }
 
 -- where the list that begins at a place ends
 abbrev pub end_at : List ℕ → ℕ → ℕ

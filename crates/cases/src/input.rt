@@ -1,8 +1,8 @@
 // Reading names, numbers and texts.
-ghost use Rattle.std.specs.Prelude.{◌≤◌, max, length};
+ghost use Rattle.std.specs.Prelude.{◌≤◌, IfSome, max, length};
 
-use model::value_at;
 use std::io::{Read, Write};
+use std::num::NonZeroU32;
 
 // No name, and no words in front of a number, have more bytes.
 const MAX_BYTES: u32 = 1000;
@@ -16,18 +16,19 @@ struct NumberRead {
     behind: u8,
 }
 
-// A number that stands several times; none at all where the list has ended.
+// A value that stands several times.
 #[derive(Drop)]
-struct NumberRun {
-    times: u32,
-    value: u32,
+struct Run<T> {
+    times: NonZeroU32,
+    value: T,
 }
 
-// A byte that stands several times; none at all where the text has ended.
-#[derive(Drop)]
-struct ByteRun {
-    times: u32,
-    value: u8,
+// The value so many times; no run where that is never.
+fn repeated<T: Drop>(times: u32, value: T) -> Option<Run<T>> {
+    Some(Run {
+        times: NonZeroU32::new(times)?,
+        value,
+    })
 }
 
 // The next byte, or a line feed where the input has ended or a read fails.
@@ -39,20 +40,10 @@ fn byte<R: Read>(input: &mut R) -> u8 {
     }
 }
 
-fn is_digit(b: u8) -> bool {
-    b'0' <= b && b <= b'9'
-}
-
 // The number with one more digit, or 0 where that has more than 32 bits.
-fn with_digit(value: u32, b: u8) -> u32 {
-    let more = value as u64 * 10 + b as u64;
-    if more < 48 {
-        return 0;
-    }
-    if 4294967295 + 48 < more {
-        return 0;
-    }
-    (more - 48) as u32
+fn with_digit(value: u32, digit: u8) -> u32 {
+    let more = u64::from(value) * 10 + u64::from(digit.saturating_sub(b'0'));
+    u32::try_from(more).unwrap_or(0)
 }
 
 // The number that goes on with the next byte.
@@ -60,7 +51,7 @@ fn number<R: Read>(input: &mut R, start: u32) -> NumberRead {
     let mut value = start;
     for _ in 0..MAX_BYTES {
         let b = byte(input);
-        if !is_digit(b) {
+        if !b.is_ascii_digit() {
             return NumberRead { value, behind: b };
         }
         value = with_digit(value, b);
@@ -71,123 +62,95 @@ fn number<R: Read>(input: &mut R, start: u32) -> NumberRead {
     }
 }
 
-// The first digit behind words, or a line feed at an empty line.
-fn first_digit<R: Read>(input: &mut R) -> u8 {
+// The first digit behind words; none at an empty line.
+fn first_digit<R: Read>(input: &mut R) -> Option<u8> {
     let mut is_line_empty = true;
     for _ in 0..MAX_BYTES {
         let b = byte(input);
-        if is_digit(b) {
-            return b;
+        if b.is_ascii_digit() {
+            return Some(b);
         }
-        if b != b'\n' {
-            is_line_empty = false;
-        } else if is_line_empty {
-            return b;
-        } else {
-            is_line_empty = true;
+        let ends_line = b == b'\n';
+        if ends_line && is_line_empty {
+            return None;
         }
+        is_line_empty = ends_line;
     }
-    b'\n'
+    None
 }
 
-fn next_number_run<R: Read>(input: &mut R) -> NumberRun {
-    let b = first_digit(input);
-    if !is_digit(b) {
-        return NumberRun { times: 0, value: 0 };
-    }
-    let first = number(input, with_digit(0, b));
+// A number that stands several times; none at all where the list has ended.
+fn next_number_run<R: Read>(input: &mut R) -> Option<Run<u32>> {
+    let digit = first_digit(input)?;
+    let first = number(input, with_digit(0, digit));
     if first.behind != b'x' {
-        return NumberRun {
-            times: 1,
-            value: first.value,
-        };
+        return repeated(1, first.value);
     }
     let second = number(input, 0);
-    NumberRun {
-        times: first.value,
-        value: second.value,
-    }
+    repeated(first.value, second.value)
 }
 
 // The byte that an escape stands for.
-fn escaped<R: Read>(input: &mut R) -> ByteRun {
+fn escaped<R: Read>(input: &mut R) -> Option<Run<u8>> {
     let b = byte(input);
-    if is_digit(b) {
-        let read = number(input, with_digit(0, b));
-        return ByteRun {
-            times: read.value,
-            value: byte(input),
-        };
+    if b.is_ascii_digit() {
+        let times = number(input, with_digit(0, b));
+        return repeated(times.value, byte(input));
     }
     match b {
-        b'n' => ByteRun {
-            times: 1,
-            value: b'\n',
-        },
-        b'r' => ByteRun {
-            times: 1,
-            value: b'\r',
-        },
-        _ => ByteRun { times: 1, value: b },
+        b'n' => repeated(1, b'\n'),
+        b'r' => repeated(1, b'\r'),
+        _ => repeated(1, b),
     }
 }
 
-fn next_byte_run<R: Read>(input: &mut R) -> ByteRun {
+// A byte that stands several times; none at all where the text has ended.
+fn next_byte_run<R: Read>(input: &mut R) -> Option<Run<u8>> {
     let b = byte(input);
     match b {
-        b'\n' => ByteRun { times: 0, value: b },
+        b'\n' => None,
         b'\\' => escaped(input),
-        _ => ByteRun { times: 1, value: b },
+        _ => repeated(1, b),
     }
 }
 
-fn one_less(n: u32) -> u32 {
-    if n == 0 {
-        return 0;
+// Fills the list with runs until there is none, or the list is full, and answers the part that was filled.
+fn fill<'a, T: Copy, R: Read, F: Fn(&mut R) -> Option<Run<T>>>(
+    input: &mut R,
+    list: &'a mut [T],
+    next_run: F,
+) -> &'a mut [T]
+    requires callable { F.IsAlwaysCallable next_run }
+    requires copied { (value : T) → T.is_infallible value }
+    ensures { length result.now ≤ length list.old }
+{
+    let mut count = 0;
+    // Each turn fills as many places as its run is long, so this is no `for`.
+    while count < list.len() {
+        let Some(run) = next_run(input) else {
+            return &mut list[..count];
+        };
+        let end = count
+            .saturating_add(run.times.get() as usize)
+            .min(list.len());
+        list[count..end].fill(run.value);
+        count = end;
     }
-    n - 1
+    list
 }
 
 // Reads numbers up to an empty line, or as many as the list holds, and answers the part of the list that was filled.
 pub fn numbers<'a, R: Read>(input: &mut R, list: &'a mut [u32]) -> &'a mut [u32]
     ensures { length result.now ≤ length list.old }
 {
-    let mut left = 0;
-    let mut value = 0;
-    for k in 0..list.len() {
-        if left == 0 {
-            let read = next_number_run(input);
-            left = read.times;
-            value = read.value;
-            if left == 0 {
-                return &mut list[..k];
-            }
-        }
-        list[k] = value;
-        left = one_less(left);
-    }
-    list
+    fill(input, list, |input| next_number_run(input))
 }
 
 // Reads a text, or as much of it as the list holds, and answers the part of the list that was filled.
 pub fn text<'a, R: Read>(input: &mut R, list: &'a mut [u8]) -> &'a mut [u8]
     ensures { length result.now ≤ length list.old }
 {
-    let mut left = 0;
-    let mut value = 0;
-    for k in 0..list.len() {
-        if left == 0 {
-            let read = next_byte_run(input);
-            left = read.times;
-            value = read.value;
-            if left == 0 {
-                return &mut list[..k];
-            }
-        }
-        list[k] = value;
-        left = one_less(left);
-    }
-    list
+    fill(input, list, |input| next_byte_run(input))
 }
 
 // Prints the next line of the input, without its end, and answers how many bytes it has. A write that fails is passed over.
@@ -202,20 +165,19 @@ fn name<R: Read, W: Write>(input: &mut R, output: &mut W) -> u32 {
     MAX_BYTES
 }
 
-// The number of the function that the next section is about; 0 where there is none, or the number is too great.
-fn next_section<R: Read>(input: &mut R, room: &mut [u32]) -> u32
-    ensures { result ≤ 1000 }
+// The number of the function that the next section is about; none where there is no section, or the number is too great.
+fn next_section<R: Read>(input: &mut R, room: &mut [u32]) -> Option<u32>
+    ensures { IfSome result (λ function. function ≤ 1000) }
 {
-    let read = numbers(input, room);
-    let function = value_at(read, 0);
+    let function = *numbers(input, room).first()?;
     if MAX_FUNCTION < function {
-        return 0;
+        return None;
     }
-    function
+    Some(function)
 }
 
 // Prints the name of the next case, and answers the number of the function that it is about, 0 where there are no more cases. That of the
-// case before is given, 0 at the start. A list is lent to read with.
+// case before is given, 0 at the start. A list is lent to read with. The answer stays a number because its promise bounds a number.
 pub fn next_case<R: Read, W: Write>(
     input: &mut R,
     output: &mut W,
@@ -229,7 +191,7 @@ pub fn next_case<R: Read, W: Write>(
             return function;
         }
     }
-    let next = next_section(input, room);
+    let next = next_section(input, room).unwrap_or(0);
     name(input, output);
     next
 }

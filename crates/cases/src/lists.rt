@@ -9,13 +9,7 @@ fn end(lists: &[u32], at: usize) -> usize
     ensures { result ≡ min (at + (get_or lists.now at 0 + 1)) (length lists.now) }
 {
     let count = value_at(lists, at) as usize;
-    if lists.len() <= at {
-        return lists.len();
-    }
-    if lists.len() - at <= count {
-        return lists.len();
-    }
-    at + (count + 1)
+    at.saturating_add(count + 1).min(lists.len())
 }
 
 // The list of a number, counted from 0. The first holds lone numbers.
@@ -23,10 +17,8 @@ pub fn list(lists: &[u32], number: u32) -> &[u32]
     ensures { result.now ≡ list_of number lists.now }
 {
     let mut at = 0;
-    let mut k = 0;
-    while k < number {
+    for _ in 0..number {
         at = end(lists, at);
-        k += 1;
     }
     let to = end(lists, at);
     if to <= at {

@@ -1,5 +1,4 @@
 -- One file to a concept.
-pub mod Filled
 pub mod Places
 pub mod Halving
 pub mod Reach

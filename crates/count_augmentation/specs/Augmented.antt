@@ -6,9 +6,7 @@ use Rattle.model.specs.Counting.{count_if, numbers_from}
 use Rattle.model.specs.Events.{having}
 use Rattle.model.specs.Location.{Side, at_first, at_second, gap}
 use Rattle.model.specs.Network.{Network, size}
-use Rattle.model.specs.Refusal.{or_else}
-use Rattle.model.specs.declared.check.Check.{Check}
-use Rattle.model.specs.declared.check.Check.TheVariants.{Accepted}
+use Rattle.model.specs.Refusal.{or_else, Check, accepted}
 
 -- of offsets on an edge of length p, how many have a gap to the side that is no greater than that of x
 unfoldable pub no_farther : ℕ → Side → List ℕ → ℕ → ℕ
@@ -28,7 +26,7 @@ augment_check net es xs near_first near-second =
     (or_else (event_lists es xs)
     (or_else (room_check (length es) near_first)
     (or_else (room_check (length es) near-second)
-    (or_else (network_values Accepted net) (or_else (event_values net es xs) (order_check es xs))))))
+    (or_else (network_values accepted net) (or_else (event_values net es xs) (order_check es xs))))))
 
 -- the promise of the function that stores them
 pub record Augmented (net : Network) (es xs near_first near-second : List ℕ) (r : Check) (near-first' near-second' : List ℕ) : Type 0 where

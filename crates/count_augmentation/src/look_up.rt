@@ -1,6 +1,6 @@
 // The stored numbers looked up by binary search.
 ghost use Rattle.std.specs.Prelude.{cond, ◌≡◌, ◌+◌, ◌/◌, ◌≤◌, ltb, length};
-ghost use Rattle.count_augmentation.specs.LookUp.{half_way, place_among_of, place_of, stored_last, read_below_of, read_from};
+ghost use Rattle.count_augmentation.specs.LookUp.{half_way, place_among_of, place_of, stored_before, stored_last, read_below_of, read_from};
 
 use model::value_at;
 
@@ -51,6 +51,7 @@ fn place_of(offsets: &[u32], limit: u64) -> usize
     ensures { result ≡ place_of offsets.now limit }
 {
     let mut low = 0;
+    // Not a `for`: the places left are halved.
     let mut left = offsets.len();
     while LAST_FEW < left {
         low = halve(offsets, limit, low, left);
@@ -59,15 +60,21 @@ fn place_of(offsets: &[u32], limit: u64) -> usize
     place_among(offsets, limit, low, left)
 }
 
+// What is stored with the event before a place, 0 before the first.
+fn stored_before(near: &[u32], place: usize) -> u32
+    ensures { result ≡ stored_before near.now place }
+{
+    if place == 0 {
+        return 0;
+    }
+    value_at(near, place - 1)
+}
+
 // What is stored for the first end with the last offset below a limit, 0 if there is none: read, whatever the list holds.
 pub(crate) fn count_below(offsets: &[u32], near_first: &[u32], limit: u64) -> u32
     ensures { result ≡ read_below_of offsets.now near_first.now limit }
 {
-    let place = place_of(offsets, limit);
-    if place == 0 {
-        return 0;
-    }
-    value_at(near_first, place - 1)
+    stored_before(near_first, place_of(offsets, limit))
 }
 
 // What is stored for the second end with the first offset not below a limit, 0 if there is none: read, whatever the list holds.
@@ -81,9 +88,5 @@ pub(crate) fn count_from(offsets: &[u32], near_second: &[u32], limit: u64) -> u3
 pub(crate) fn count_all(near_first: &[u32]) -> u32
     ensures { result ≡ stored_last near_first.now }
 {
-    let places = near_first.len();
-    if places == 0 {
-        return 0;
-    }
-    value_at(near_first, places - 1)
+    stored_before(near_first, near_first.len())
 }

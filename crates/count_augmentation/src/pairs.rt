@@ -14,21 +14,21 @@ use crate::look_up::count_all;
 use crate::reach::count_part;
 use crate::thresholds::place_in;
 use edge_pair::{EdgePair, change_from, to_end};
-use model::{EventSet, equals_end, lesser, value_at};
+use model::{EventSet, equals_end, value_at};
 
 // The least threshold at which all of an edge is within reach of its ends, which are u and v metres away from an event.
 fn whole_from(length: u32, u: u64, v: u64) -> u64
     requires { (u ≤ far + far) × (v ≤ far + far) }
     ensures { result ≡ whole_from_of length u v }
 {
-    lesser((u + v + length as u64) / 2, lesser(u, v) + length as u64)
+    ((u + v + length as u64) / 2).min(u.min(v) + length as u64)
 }
 
 // The least at which anything of it is; on the event's own edge something always is.
 fn some_from(own: bool, u: u64, v: u64) -> u64
     ensures { result ≡ some_from_of own u v }
 {
-    if own { 0 } else { lesser(u, v) }
+    if own { 0 } else { u.min(v) }
 }
 
 // Adds what is looked up for so many events at one offset: nothing at the thresholds before one place, what is found at each from there
@@ -52,14 +52,12 @@ fn add_between(
     ensures { Spread edges thresholds.now x ys.now near_first.now near_second.now from to → Added (length thresholds.now) (λ k. events * looked_up_by edges (get_or thresholds.now k 0) x ys.now near_first.now near_second.now) totals.old totals.new }
 {
     let mut last = 0;
-    let mut k = from;
-    while k < to {
+    for k in from..to {
         let threshold = value_at(thresholds, k);
         let found = count_part(edges, x, u, v, threshold, ys, near_first, near_second);
         let next = events * found;
         change_from(totals, k, last, next);
         last = next;
-        k += 1;
     }
     let rest = events * all as u64;
     change_from(totals, to, last, rest);
@@ -124,6 +122,7 @@ pub fn add_pairs(
     }
     let all = count_all(near_first);
     let mut place = 0;
+    // Not a `for`: the place goes on to the end of the events at one offset.
     let mut i = 0;
     while i < xs.len() {
         let next = equals_end(xs, i);

@@ -21,7 +21,7 @@ fn next_at_most(offsets: &[u32], k: usize, later: u32) -> u32
     next as u32
 }
 
-// How many are at least the offset at a place, from that of the place before.
+// How many are at least the offset at a place, from that of the place before. The two stay apart, because they look to different sides.
 fn next_at_least(offsets: &[u32], k: usize, earlier: u32) -> u32
     requires { (k < length offsets.now) × (length offsets.now ≤ max_events) }
     ensures { Ordered offsets.now → (0 < k → earlier ≡ at_least offsets.now (get_or offsets.now (pred k) 0)) → result ≡ at_least offsets.now (get_or offsets.now k 0) }
@@ -36,15 +36,16 @@ fn next_at_least(offsets: &[u32], k: usize, earlier: u32) -> u32
     rest as u32
 }
 
+// The two passes below differ in their direction, so that they stay two functions: one loop from run to run of equal offsets that fills
+// both lists takes two to four times as long where all offsets differ.
+
 // With each event, how many lie no farther from the first end: one pass from the back.
 fn store_first(offsets: &[u32], near: &mut [u32])
     requires { Storable offsets.now near.old }
     ensures { Ordered offsets.now → (k : ℕ) → k < length offsets.now → get_or near.new k 0 ≡ at_most offsets.now (get_or offsets.now k 0) }
 {
     let mut number = 0;
-    let mut k = offsets.len();
-    while 0 < k {
-        k -= 1;
+    for k in (0..offsets.len()).rev() {
         number = next_at_most(offsets, k, number);
         near[k] = number;
     }
@@ -56,11 +57,9 @@ fn store_second(offsets: &[u32], near: &mut [u32])
     ensures { Ordered offsets.now → (k : ℕ) → k < length offsets.now → get_or near.new k 0 ≡ at_least offsets.now (get_or offsets.now k 0) }
 {
     let mut number = 0;
-    let mut k = 0;
-    while k < offsets.len() {
+    for k in 0..offsets.len() {
         number = next_at_least(offsets, k, number);
         near[k] = number;
-        k += 1;
     }
 }
 

@@ -3,3 +3,4 @@ pub mod TwoEdges
 pub mod Runs
 pub mod Kernels
 pub mod Rows
+pub mod Prepared

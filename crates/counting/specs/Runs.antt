@@ -2,36 +2,36 @@
 use Rattle.std.specs.Prelude.{◌≡◌, ℕ, suc, pred, ◌+◌, ◌-◌, ◌<◌, ◌≤◌, Bool, cond, List, length, take, drop, slice_index, slice_index_or}
 use Rattle.model.specs.Counting.{sum_below}
 use Rattle.model.specs.Limits.{max_events, max_thresholds}
-use Rattle.model.specs.Network.{Network, edges}
+use Rattle.model.specs.Network.{Network}
 use Rattle.edge_pair.specs.Offsets.{Ordered, OnEdge, EdgesLaid}
 use Rattle.edge_pair.specs.Within.{reached_pairs}
 use Rattle.edge_pair.specs.declared.edges.EdgePair.{EdgePair}
-use Rattle.prepare.specs.EndTable.{EndTable}
 use Rattle.prepare.specs.RunPairs.{edge_of, part_of, pairs_with, RunsReady}
 use Rattle.count_augmentation.specs.Storing.{NumbersStored}
 use Rattle.range_query.specs.Ladder.{LadderOf}
-use Rattle.counting.specs.TwoEdges.{table_edges_of}
+use Rattle.counting.specs.TwoEdges.{rows_of, table_edges_of}
 use Rattle.counting.specs.declared.runs.Run.{Run}
+use Rattle.counting.specs.declared.runs.Taken.{Taken}
 
--- a run by its number, and its part of a list
+-- a run by its number
 unfoldable pub run_of : List ℕ → List ℕ → ℕ → Run
 run_of es bounds r =
     record { edge = pred (edge_of es bounds r); from = slice_index bounds r; to = slice_index bounds (suc r) }
 
+-- with the rows of its edge
+unfoldable pub taken_of : Network → List ℕ → List ℕ → ℕ → Taken
+taken_of net es bounds r =
+    record { number = r; run = run_of es bounds r; rows = rows_of net (pred (edge_of es bounds r)) }
+
+-- its part of a list
 abbrev pub part : Run → List ℕ → List ℕ
 part run l = take (run.to - run.from) (drop run.from l)
 
--- it stands in the lists
+-- a run stands in the lists
 pub record RunRead (es bounds : List ℕ) (r : ℕ) : Type 0 where
   pub in_bounds : suc r < length bounds
   pub in_edges : slice_index_or bounds r 0 < length es
   pub named : 1 ≤ edge_of es bounds r
-
--- the edges of the first runs, as they are read, are edges of a network whose table is held
-pub record EdgesRead (net : Network) (table es bounds : List ℕ) (runs : ℕ) : Type 0 where
-  pub table_is : EndTable net table
-  pub read : (k : ℕ) → k < runs → RunRead es bounds k
-  pub is_edge : (k : ℕ) → k < runs → pred (edge_of es bounds k) < edges net
 
 -- nothing on the edges of the runs from one on up to before another is reached from the edge at index i
 pub record ApartTo (net : Network) (table es bounds : List ℕ) (i from to : ℕ) : Type 0 where

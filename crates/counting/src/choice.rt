@@ -1,5 +1,5 @@
 // Which kernel two runs are counted by.
-ghost use Rattle.std.specs.Prelude.{◌≡◌, ℕ, ◌*◌, ◌<◌, ◌≤◌, true, List, length, slice_index};
+ghost use Rattle.std.specs.Prelude.{◌≡◌, ℕ, ◌*◌, ◌<◌, ◌≤◌, true, false, List, length, slice_index};
 ghost use Rattle.model.specs.Limits.{max_events};
 ghost use Rattle.edge_pair.specs.Offsets.{Ordered};
 ghost use Rattle.range_query.specs.Ladder.{LadderOf};
@@ -7,7 +7,7 @@ ghost use Rattle.counting.specs.Kernels.{LastAdmits, Leads, Right};
 
 use crate::method::Method;
 use edge_pair::{EdgePair, greatest_distance, shortest_route};
-use model::{less, lesser, value_at};
+use model::value_at;
 use range_query::{WIDEST_AT, first_admitting};
 
 // The kernel of a method, or none: all pairs of the two runs are within reach from one threshold on and none before, or one threshold
@@ -47,16 +47,16 @@ const EVENTS_A_THRESHOLD: u64 = 4;
 const EVENTS_A_THRESHOLD_ON_ONE_EDGE: u64 = 15;
 
 // Moving cursors over so many events at one offset counts as much as moving them on to another offset.
-const EVENTS_TO_AN_OFFSET: u64 = 16;
+const EVENTS_TO_AN_OFFSET: usize = 16;
 
 // Numbers of events are cut off here, above the limit on events, so that products of two fit.
-const MANY: u64 = 65536;
+const MANY: usize = 65536;
 
 // The number of pairs; no more than the square of MANY.
 pub(crate) fn pairs_of(a: usize, b: usize) -> u64
     ensures { a ≤ max_events → b ≤ max_events → result ≡ a * b }
 {
-    lesser(a as u64, MANY) * lesser(b as u64, MANY)
+    (a.min(MANY) * b.min(MANY)) as u64
 }
 
 // The limit for two edges, or for one edge with itself.
@@ -72,33 +72,34 @@ fn events_a_threshold(same: bool) -> u64
 
 // On one edge, moving cursors should be faster than looking numbers up: at each of all thresholds the cursors are moved to every offset
 // and over every event, and numbers are looked up for every offset at the thresholds that may part the pairs, which counts twice.
-fn cursors_pay(length: u32, events: u64, thresholds: u64, parting: u64) -> bool {
-    let passed = lesser(events, MANY);
-    let offsets = lesser(passed, length as u64 + 1);
-    let moves = lesser(thresholds, MANY) * (passed + EVENTS_TO_AN_OFFSET * offsets);
-    let looks = lesser(parting, MANY) * (2 * EVENTS_TO_AN_OFFSET * offsets);
+fn cursors_pay(length: u32, events: usize, thresholds: usize, parting: usize) -> bool {
+    let passed = events.min(MANY);
+    let offsets = passed.min(length as usize + 1);
+    let moves = thresholds.min(MANY) * (passed + EVENTS_TO_AN_OFFSET * offsets);
+    let looks = parting.min(MANY) * (2 * EVENTS_TO_AN_OFFSET * offsets);
     moves <= looks
 }
 
 // How many of so many thresholds part the pairs of one event with those of the second run, in the mean over the first edge. All do, unless
 // they lie within fewer metres than half of both edges: most events of the first edge are then too far away from the second for any.
-fn parting(edges: EdgePair, between: u64, last: u32) -> u64
+fn parting(edges: EdgePair, between: usize, last: u32) -> u64
     ensures { result ≤ 65536 }
 {
-    let all = lesser(between, MANY);
+    let all = between.min(MANY) as u64;
     if edges.same {
         return all;
     }
     let both = edges.length1 as u64 + edges.length2 as u64;
-    let twice = 2 * less(last as u64, shortest_route(edges));
+    let twice = 2 * (last as u64).saturating_sub(shortest_route(edges));
     if both <= twice {
         return all;
     }
-    lesser(all * twice / both, MANY)
+    all * twice / both
 }
 
 // Looking at pairs one by one, moving cursors or looking numbers up, by how many of so many thresholds may part the pairs, from the one
 // at a place on.
+#[tactic(auto, using(crate::specs::Kernels::by_range_query, crate::specs::Kernels::by_count_augmentation, crate::specs::Kernels::by_neighbor_sharing))]
 fn by_thresholds(
     edges: EdgePair,
     from: usize,
@@ -108,18 +109,13 @@ fn by_thresholds(
 ) -> Kernel
     ensures { (ts : List ℕ) → Right ts edges result }
 {
-    let admits_all = first_admitting(ladder, greatest_distance(edges));
-    let to = lesser(admits_all as u64, thresholds as u64);
-    let between = lesser(less(to, from as u64), MANY);
-    let last = value_at(ladder, less(to, 1) as usize);
-    let parted = parting(edges, between, last);
-    if lesser(others as u64, MANY) <= events_a_threshold(edges.same) * parted {
+    let to = first_admitting(ladder, greatest_distance(edges)).min(thresholds);
+    let between = to.saturating_sub(from);
+    let last = value_at(ladder, to.saturating_sub(1));
+    if others as u64 <= events_a_threshold(edges.same) * parting(edges, between, last) {
         return Kernel::RangeQuery;
     }
-    if !edges.same {
-        return Kernel::CountAugmentation;
-    }
-    if cursors_pay(edges.length1, others as u64, thresholds as u64, between) {
+    if edges.same && cursors_pay(edges.length1, others, thresholds, between) {
         return Kernel::NeighborSharing;
     }
     Kernel::CountAugmentation
@@ -128,39 +124,30 @@ fn by_thresholds(
 // There are not many pairs, and the two edges are long beside the gaps between thresholds, so that thresholds are likely to part the
 // pairs.
 fn are_likely_parted(edges: EdgePair, pairs: u64, ladder: &[u32]) -> bool {
-    if PARTED_PAIRS < pairs {
-        return false;
-    }
-    let widest = value_at(ladder, WIDEST_AT) as u64;
     let both = edges.length1 as u64 + edges.length2 as u64;
-    WIDEST_GAPS * widest <= LENGTHS * both
+    pairs <= PARTED_PAIRS && WIDEST_GAPS * value_at(ladder, WIDEST_AT) as u64 <= LENGTHS * both
 }
 
 // The threshold at a place admits so many metres, or there is none.
 fn is_next(metres: u64, place: usize, thresholds: &[u32]) -> bool
-    ensures { result ≡ true → place < length thresholds.now → metres ≤ slice_index thresholds.now place }
+    ensures admits { result ≡ true → place < length thresholds.now → metres ≤ slice_index thresholds.now place }
+    ensures in_list { result ≡ false → place < length thresholds.now }
 {
-    if thresholds.len() <= place {
-        return true;
-    }
-    metres <= value_at(thresholds, place) as u64
+    thresholds.len() <= place || metres <= thresholds[place] as u64
 }
 
 // Only the last of at least two thresholds admits so many metres, and it admits so many more.
 fn only_last_admits(near: u64, far: u64, thresholds: &[u32]) -> bool
     ensures { result ≡ true → LastAdmits near far thresholds.now }
 {
-    let count = thresholds.len();
-    if count < 2 {
-        return false;
+    match thresholds {
+        [.., before, last] => (*before as u64) < near && far <= *last as u64,
+        _ => false,
     }
-    if near <= thresholds[count - 2] as u64 {
-        return false;
-    }
-    far <= thresholds[count - 1] as u64
 }
 
 // What should be fastest for two runs of so many events.
+#[tactic(auto, using(crate::specs::Kernels::by_range_query))]
 fn cheapest(
     edges: EdgePair,
     events: usize,
@@ -186,16 +173,11 @@ fn cheapest(
         return Kernel::RangeQuery;
     }
     let from = first_admitting(ladder, near);
-    if thresholds.len() <= from {
+    if is_next(far, from, thresholds) {
         return Kernel::AtOnce(from);
     }
-    if far <= value_at(thresholds, from) as u64 {
-        return Kernel::AtOnce(from);
-    }
-    if others <= FEW_TO_COMPARE {
-        if is_next(far, from + 1, thresholds) {
-            return Kernel::Parted(from);
-        }
+    if others <= FEW_TO_COMPARE && is_next(far, from + 1, thresholds) {
+        return Kernel::Parted(from);
     }
     if pairs <= FEW_PAIRS {
         return Kernel::RangeQuery;

@@ -4,6 +4,7 @@
 mod choice;
 mod kernels;
 mod method;
+mod prepared;
 mod rows;
 mod runs;
 mod sets;

@@ -15,8 +15,7 @@ pub(crate) fn store_runs(
     requires { RunsStorable offsets.now bounds.now near_first.old near_second.old runs }
     ensures { RunsStored offsets.now bounds.now near_first.new near_second.new runs }
 {
-    let mut k = 0;
-    while k < runs {
+    for k in 0..runs {
         let from = value_at(bounds, k) as usize;
         let to = value_at(bounds, k + 1) as usize;
         store(
@@ -24,6 +23,5 @@ pub(crate) fn store_runs(
             &mut near_first[from..to],
             &mut near_second[from..to],
         );
-        k += 1;
     }
 }

@@ -1,12 +1,13 @@
 // Two edges from the table of leg-end distances.
 ghost use Rattle.std.specs.Prelude.{◌≡◌, ℕ, pred, ◌+◌, ◌*◌, ◌<◌, ◌≤◌, true, List, length, slice_index};
-ghost use Rattle.model.specs.Network.{network};
+ghost use Rattle.model.specs.Network.{network_of};
 ghost use Rattle.edge_pair.specs.Within.{reached_pairs};
 ghost use Rattle.model.specs.Limits.{max_nodes};
 ghost use Rattle.prepare.specs.EndTable.{EndTable};
 ghost use Rattle.counting.specs.TwoEdges.{rows_of, table_edges_of, EdgeIn};
 
 use edge_pair::EdgePair;
+use model::Network;
 
 // An edge by its index: its length, and where the table has the rows of its two ends.
 #[derive(Clone, Copy)]
@@ -25,23 +26,16 @@ fn row_of(nodes: u32, u: u32) -> usize
     (u as usize - 1) * (nodes as usize)
 }
 
-pub(crate) fn rows_of(
-    nodes: u32,
-    firsts: &[u32],
-    seconds: &[u32],
-    lengths: &[u32],
-    i: usize,
-) -> Rows
-    requires { EdgeIn (network nodes firsts.now seconds.now lengths.now) i }
-    ensures { result ≡ rows_of (network nodes firsts.now seconds.now lengths.now) i }
+#[tactic(auto, unfolding(crate::specs::TwoEdges::rows_of))]
+pub(crate) fn rows_of(network: Network, i: usize) -> Rows
+    requires { EdgeIn (network_of network) i }
+    ensures { result ≡ rows_of (network_of network.entry) i }
 {
-    let first = row_of(nodes, firsts[i]);
-    let second = row_of(nodes, seconds[i]);
     Rows {
         edge: i,
-        length: lengths[i],
-        first,
-        second,
+        length: network.lengths[i],
+        first: row_of(network.nodes, network.firsts[i]),
+        second: row_of(network.nodes, network.seconds[i]),
     }
 }
 
@@ -55,34 +49,20 @@ fn entry_in(table: &[u32], row: usize, v: u32) -> u32
 }
 
 // Two edges: one whose rows are known, and another by its index.
-pub(crate) fn table_edges(
-    nodes: u32,
-    firsts: &[u32],
-    seconds: &[u32],
-    lengths: &[u32],
-    table: &[u32],
-    i: usize,
-    rows: Rows,
-    j: usize,
-) -> EdgePair
-    requires { EndTable (network nodes firsts.now seconds.now lengths.now) table.now × (i < length lengths.now) × (j < length lengths.now) × (rows ≡ rows_of (network nodes firsts.now seconds.now lengths.now) i) }
-    ensures { result ≡ table_edges_of (network nodes firsts.now seconds.now lengths.now) table.now i j }
+pub(crate) fn table_edges(network: Network, table: &[u32], rows: Rows, j: usize) -> EdgePair
+    requires { EndTable (network_of network) table.now × (rows.edge < length network.lengths.now) × (j < length network.lengths.now) × (rows ≡ rows_of (network_of network) rows.edge) }
+    ensures { result ≡ table_edges_of (network_of network.entry) table.now rows.edge j }
 {
-    let first = firsts[j];
-    let second = seconds[j];
-    let length2 = lengths[j];
-    let ff = entry_in(table, rows.first, first);
-    let fs = entry_in(table, rows.first, second);
-    let sf = entry_in(table, rows.second, first);
-    let ss = entry_in(table, rows.second, second);
+    let first = network.firsts[j];
+    let second = network.seconds[j];
     EdgePair {
         length1: rows.length,
-        length2,
+        length2: network.lengths[j],
         same: rows.edge == j,
-        ff,
-        fs,
-        sf,
-        ss,
+        ff: entry_in(table, rows.first, first),
+        fs: entry_in(table, rows.first, second),
+        sf: entry_in(table, rows.second, first),
+        ss: entry_in(table, rows.second, second),
     }
 }
 
@@ -91,8 +71,5 @@ pub(crate) fn table_edges(
 pub(crate) fn are_apart(pair: EdgePair) -> bool
     ensures { result ≡ true → (t : ℕ) (xs ys : List ℕ) → reached_pairs t pair xs ys ≡ 0 }
 {
-    if pair.same {
-        return false;
-    }
-    (pair.ff == 0) & (pair.fs == 0) & (pair.sf == 0) & (pair.ss == 0)
+    !pair.same && (pair.ff == 0) & (pair.fs == 0) & (pair.sf == 0) & (pair.ss == 0)
 }

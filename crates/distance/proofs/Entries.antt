@@ -1,11 +1,10 @@
--- Rows of entries: how one is copied, that it is the row of distances, and how far these go.
-use mathlib.Core.List.{List, ◌++◌}
-use mathlib.Core.Path.{◌≡◌, ◌∙◌, sym, ap}
+-- Rows of entries: that one is the row of distances, and how far these go.
+use mathlib.Core.List.{List}
+use mathlib.Core.Path.{◌≡◌, ◌∙◌, sym}
 use Prim.Native.Nat.{ℕ, suc, ◌+◌, ◌*◌, ◌<◌, ◌≤◌}
-use native.Mathlib.Numerals.{add-one}
 use native.Mathlib.Omega.{arith}
-use lib.ListN.{length, get_or, take, drop, set, length-drop}
-use lib.Seq.{drop-cons, take-suc, append_snoc, set_at, length-take-le, get_or-take, get_or-drop}
+use lib.ListN.{length, take, drop, length-drop}
+use lib.Seq.{length-take-le, get_or-take, get_or-drop}
 use Rattle.model.proofs.Laws.Codes.{code-unique}
 use Rattle.model.proofs.Laws.Lists.{all-entries}
 use Rattle.model.specs.Distance.{code}
@@ -14,13 +13,6 @@ use Rattle.model.specs.Network.{Network}
 use Rattle.model.specs.NodeDistance.{node_distance_of, bounded_distance}
 use Rattle.distance.specs.Answers.{distance_row}
 use Rattle.distance.specs.Search.{Searched}
-
--- one entry more has been copied
-pub copy_more : (from old new : List ℕ) (k : ℕ) → k < length from → k < length old → new ≡ take k from ++ drop k old → set new k (get_or from k 0) ≡ take (k + 1) from ++ drop (k + 1) old
-copy_more from old new k inside room e =
-    ap (λ (l : List ℕ). set l k (get_or from k 0)) (e ∙ ap (λ (l : List ℕ). take k from ++ l) (drop-cons old k 0 room))
-    ∙ set_at (take k from) (get_or old k 0) (drop (suc k) old) (get_or from k 0) k (length-take-le k from (omega arith))
-    ∙ sym (rw (add-one, take-suc from k 0 inside, append_snoc))
 
 -- what a search leaves, from node 1 on, is the row of distances
 pub searched-row : {net : Network} {source bound : ℕ} {dist : List ℕ} → Searched net source bound dist → net.nodes < length dist → take net.nodes (drop 1 dist) ≡ distance_row net bound source

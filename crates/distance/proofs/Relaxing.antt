@@ -1,4 +1,5 @@
 -- What relaxing edges does to the entries, and what these are once a pass lowers none.
+use Rattle.model.specs.Refusal.{accepted}
 use mathlib.Core.Bool.{cond}
 use mathlib.Core.List.{List}
 use mathlib.Core.Logic.{inl, inr}
@@ -8,8 +9,9 @@ use native.Mathlib.Decide.{ℕ_discrete, dec_le, dec_lt}
 use native.Mathlib.Omega.{arith}
 use borrow.Author.Tests.{eq-eqb, ne_eqb}
 use lib.Dec.{eqb}
-use lib.ListN.{length, get_or, set, length-set}
+use lib.ListN.{length, get_or, set, replicate, length-set, get_or-eq_default}
 use lib.Seq.{set-get_or}
+use Rattle.std.proofs.lemmas.List.{get_or-replicate}
 use Rattle.model.proofs.Laws.Checks.{IsNetwork, network-accepted}
 use Rattle.model.proofs.Laws.Least.{least-unique}
 use Rattle.model.proofs.Laws.NodeDistance.{node-distance, bounded-distance, walk_turn}
@@ -19,8 +21,7 @@ use Rattle.model.specs.Limits.{max_length, max_nodes, max_edges}
 use Rattle.model.specs.Network.{Network, IsNode, edges, first, second, size}
 use Rattle.model.specs.NodeDistance.{node_distance_of, bounded_distance}
 use Rattle.model.specs.Walk.{Walk, here, onward, Joins, forward, backward, IsLeast, attained, no_walk}
-use Rattle.model.specs.declared.check.Check.TheVariants.{Accepted}
-use Rattle.distance.specs.Passes.{unreached, Reset, Relaxable, Level, AllLevel, Relaxed}
+use Rattle.distance.specs.Passes.{unreached, Relaxable, Level, AllLevel, Relaxed}
 use Rattle.distance.specs.Search.{Clipped, Found}
 use Rattle.distance.proofs.Lists.{AfterStore, set_cases}
 use Rattle.distance.specs.Table.{RowsKnown}
@@ -28,8 +29,8 @@ use Rattle.distance.proofs.Short.{LeastLength, by_code, by-walk, walk_end, short
 
 module _ {net : Network} {source : ℕ} where
   -- nothing but the source has been reached
-  pub relaxable-start : (dist : List ℕ) {long : ℕ} → length dist ≡ long → network_check net ≡ Accepted → IsNode net source → net.nodes < long → ((v : ℕ) → Reset long v (get_or dist v 0)) → Relaxable net source (set dist source 1)
-  relaxable-start dist {long} same accepted node room clear =
+  pub relaxable-start : (dist : List ℕ) {long : ℕ} → length dist ≡ long → network_check net ≡ accepted → IsNode net source → net.nodes < long → dist ≡ replicate long unreached → Relaxable net source (set dist source 1)
+  relaxable-start dist {long} same accepted node room reset =
       record {
         accepted = accepted;
         room = simp length-set (omega arith);
@@ -39,24 +40,30 @@ module _ {net : Network} {source : ℕ} where
         from_source = at_source (after source);
       }
     where
+      inside : (v : ℕ) → v < long → get_or dist v 0 ≡ unreached
+      inside v h = rw reset (get_or-replicate long v unreached 0 h)
+
+      beyond : (v : ℕ) → long ≤ v → get_or dist v 0 ≡ 0
+      beyond v h = get_or-eq_default dist 0 {n = v} (omega arith)
+
       after : (v : ℕ) → AfterStore dist source 1 v
       after v = set_cases dist source 1 v (omega (arith, node.to_nodes))
 
       low : (v : ℕ) → AfterStore dist source 1 v → Dec (v < long) → get_or (set dist source 1) v 0 ≤ unreached
       low v (inl (e, q)) d = omega arith
-      low v (inr (e, q)) (yes h) = omega (arith, (clear v).inside h)
-      low v (inr (e, q)) (no h) = omega (arith, (clear v).beyond (omega arith))
+      low v (inr (e, q)) (yes h) = omega (arith, inside v h)
+      low v (inr (e, q)) (no h) = omega (arith, beyond v (omega arith))
 
       some : (v : ℕ) → IsNode net v → AfterStore dist source 1 v → 1 ≤ get_or (set dist source 1) v 0
       some v is (inl (e, q)) = omega arith
-      some v is (inr (e, q)) = omega (arith, (clear v).inside (omega (arith, is.to_nodes)))
+      some v is (inr (e, q)) = omega (arith, inside v (omega (arith, is.to_nodes)))
 
       walks : (v n : ℕ) → get_or (set dist source 1) v 0 ≡ suc n → suc n < unreached → AfterStore dist source 1 v → Dec (v < long) → Walk net source v n
       walks v n e h (inl (p, q)) d =
           let none : 0 ≡ n = omega arith in
           subst (Walk net source v) none (subst (λ (k : ℕ). Walk net source k 0) (sym p) here)
-      walks v n e h (inr (p, q)) (yes l) = absurd (omega (arith, (clear v).inside l))
-      walks v n e h (inr (p, q)) (no l) = absurd (omega (arith, (clear v).beyond (omega arith)))
+      walks v n e h (inr (p, q)) (yes l) = absurd (omega (arith, inside v l))
+      walks v n e h (inr (p, q)) (no l) = absurd (omega (arith, beyond v (omega arith)))
 
       at_source : AfterStore dist source 1 source → get_or (set dist source 1) source 0 ≤ 1
       at_source (inl (e, q)) = omega arith

@@ -1,4 +1,5 @@
 -- The table: its verdict, and its rows while they are filled one after the other.
+use Rattle.model.specs.declared.refusal.Fault.TheVariants.{ListsDiffer}
 use mathlib.Core.Bool.{cond}
 use mathlib.Core.List.{List, ◌++◌, append_assoc, append-nil}
 use mathlib.Core.Path.{◌≡◌, ◌∙◌, refl, sym, ap}
@@ -16,9 +17,7 @@ use Rattle.model.proofs.Laws.Refusal.{both-accepted, unless-accepted, or-else-ne
 use Rattle.model.specs.Checks.{network_lists, network_check, room_check}
 use Rattle.model.specs.Limits.{max_nodes}
 use Rattle.model.specs.Network.{Network}
-use Rattle.model.specs.Refusal.{or_else, unless, lists_differ}
-use Rattle.model.specs.declared.check.Check.{Check}
-use Rattle.model.specs.declared.check.Check.TheVariants.{Accepted, Refused}
+use Rattle.model.specs.Refusal.{or_else, unless, Check, accepted, refusal}
 use Rattle.distance.specs.Answers.{distance_row, table_rows, table, table_check, TableAnswered}
 use Rattle.distance.specs.Table.{Fillable, RowsHold, RowsKnown, filled_row}
 use Rattle.distance.proofs.Laws.Rows.{in_rows, row-length, row_at}
@@ -33,31 +32,31 @@ square-small h = mul-le-mul h h
 
 module _ (net : Network) (wanted rows : List ℕ) where
   -- the list of wanted nodes is not as long as it should be
-  pub wanted-differs : (length wanted ≡ net.nodes → ⊥) → Refused lists_differ 0 ≡ table_check net wanted rows
+  pub wanted-differs : (length wanted ≡ net.nodes → ⊥) → refusal ListsDiffer 0 ≡ table_check net wanted rows
   unfolding table_check
-  wanted-differs n = sym (lists-first net (or-else-refused _ (unless-refuses _ lists_differ 0 (ne_eqb _ _ n))))
+  wanted-differs n = sym (lists-first net (or-else-refused _ (unless-refuses _ ListsDiffer 0 (ne_eqb _ _ n))))
 
   module _ (same : length wanted ≡ net.nodes) where
-    past-wanted : (rest : Check) → or_else (network_lists net) rest ≡ or_else (network_lists net) (or_else (unless (eqb (length wanted) net.nodes) lists_differ 0) rest)
-    past-wanted rest = ap (or_else (network_lists net)) (sym (or-else-next rest (unless-accepts _ lists_differ 0 (eq-eqb _ _ same))))
+    past-wanted : (rest : Check) → or_else (network_lists net) rest ≡ or_else (network_lists net) (or_else (unless (eqb (length wanted) net.nodes) ListsDiffer 0) rest)
+    past-wanted rest = ap (or_else (network_lists net)) (sym (or-else-next rest (unless-accepts _ ListsDiffer 0 (eq-eqb _ _ same))))
 
     -- the table is too short
-    pub table-short : length rows < net.nodes * net.nodes → Refused lists_differ 0 ≡ table_check net wanted rows
+    pub table-short : length rows < net.nodes * net.nodes → refusal ListsDiffer 0 ≡ table_check net wanted rows
     unfolding table_check room_check
-    table-short h = sym (lists-first net (or-else-refused _ (unless-refuses _ lists_differ 0 (lt-leb _ _ h)))) ∙ past-wanted _
+    table-short h = sym (lists-first net (or-else-refused _ (unless-refuses _ ListsDiffer 0 (lt-leb _ _ h)))) ∙ past-wanted _
 
     -- both fit: the network decides
     pub table-roomy : net.nodes * net.nodes ≤ length rows → network_check net ≡ table_check net wanted rows
     unfolding table_check room_check network_check
-    table-roomy h = ap (or_else (network_lists net)) (sym (or-else-next _ (unless-accepts _ lists_differ 0 (le-leb _ _ h)))) ∙ past-wanted _
+    table-roomy h = ap (or_else (network_lists net)) (sym (or-else-next _ (unless-accepts _ ListsDiffer 0 (le-leb _ _ h)))) ∙ past-wanted _
 
   -- accepted: the table can be filled
-  pub table-accepted : table_check net wanted rows ≡ Accepted → Fillable net wanted rows
+  pub table-accepted : table_check net wanted rows ≡ accepted → Fillable net wanted rows
   unfolding table_check room_check
   table-accepted e =
       let past-lists = (both-accepted _ _ e).1 in
-      let same = eqb-true _ _ (unless-accepted _ lists_differ 0 (both-accepted _ _ past-lists).0) in
-      let room = leb-true _ _ (unless-accepted _ lists_differ 0 (both-accepted _ _ (both-accepted _ _ past-lists).1).0) in
+      let same = eqb-true _ _ (unless-accepted _ ListsDiffer 0 (both-accepted _ _ past-lists).0) in
+      let room = leb-true _ _ (unless-accepted _ ListsDiffer 0 (both-accepted _ _ (both-accepted _ _ past-lists).1).0) in
       record { accepted = table-roomy same room ∙ e; wanted_length = same; room = room }
 
 -- the entry for the node of row k in the row of an earlier node y lies inside the table
@@ -235,7 +234,7 @@ module _ (net : Network) (bound : ℕ) (wanted old : List ℕ) where
       sym (take-append-drop at rows) ∙ ap (λ (l : List ℕ). take at rows ++ l) (f.rest ∙ ap (λ (i : ℕ). drop i old) end) ∙ ap (λ (l : List ℕ). l ++ drop (net.nodes * net.nodes) old) (sym filled)
 
   -- an accepted table that is filled so and keeps its length is the answer
-  pub table-answered : {r : Check} {new : List ℕ} → r ≡ table_check net wanted old → r ≡ Accepted → new ≡ table net bound wanted old ++ drop (net.nodes * net.nodes) old → length new ≡ length old → TableAnswered net bound wanted old r new
+  pub table-answered : {r : Check} {new : List ℕ} → r ≡ table_check net wanted old → r ≡ accepted → new ≡ table net bound wanted old ++ drop (net.nodes * net.nodes) old → length new ≡ length old → TableAnswered net bound wanted old r new
   table-answered {new = new} verdict past filled same =
       let accepted = sym verdict ∙ past in
       let long : length (table net bound wanted old) ≡ net.nodes * net.nodes = omega (arith, simp (length-append, length-drop) at (ap length filled), (table-accepted net wanted old accepted).room) in

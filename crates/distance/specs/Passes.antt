@@ -1,23 +1,18 @@
 -- What passes over all edges keep. An entry is one more than the length of a walk from the source, or stands for a node that has not been
 -- reached.
+use Rattle.model.specs.Refusal.{accepted}
 use Rattle.std.specs.Prelude.{List, ◌≡◌, ℕ, suc, ◌+◌, ◌<◌, ◌≤◌, length, get_or}
 use Rattle.model.specs.Checks.{network_check}
 use Rattle.model.specs.Network.{Network, IsNode, edges, first, second, size}
 use Rattle.model.specs.Walk.{Walk}
-use Rattle.model.specs.declared.check.Check.TheVariants.{Accepted}
 
 -- the entry of a node that has not been reached. Law (proofs/Short, `short-distance`): one more than any distance is less
 abbrev pub unreached : ℕ
 unreached = 1073741824
 
--- an entry of a list of some length, once none has been reached
-pub record Reset (long v entry : ℕ) : Type 0 where
-  pub inside : v < long → entry ≡ unreached
-  pub beyond : long ≤ v → entry ≡ 0
-
 -- what a pass asks of a network and its entries, and keeps
 pub record Relaxable (net : Network) (source : ℕ) (dist : List ℕ) : Type 0 where
-  pub accepted : network_check net ≡ Accepted
+  pub accepted : network_check net ≡ accepted
   pub room : net.nodes < length dist
   pub low : (v : ℕ) → get_or dist v 0 ≤ unreached
   pub some : (v : ℕ) → IsNode net v → 1 ≤ get_or dist v 0

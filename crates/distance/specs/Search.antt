@@ -1,4 +1,5 @@
 -- What the search keeps while it runs. Entries are codes: 0 where no walk has been found, else one more than its length.
+use Rattle.model.specs.Refusal.{accepted}
 use Rattle.std.specs.Prelude.{List, ◌≡◌, ℕ, suc, ◌+◌, ◌*◌, ◌/◌, ◌<◌, ◌≤◌, leb, length, get_or, set}
 use Rattle.model.specs.Checks.{network_check}
 use Rattle.model.specs.Counting.{count_below_of}
@@ -7,7 +8,6 @@ use Rattle.model.specs.Limits.{max_length, max_nodes, max_edges}
 use Rattle.model.specs.Network.{Network, IsNode, EndsAreNodes, edges, size}
 use Rattle.model.specs.NodeDistance.{node_distance_of, bounded_distance}
 use Rattle.model.specs.Walk.{Walk}
-use Rattle.model.specs.declared.check.Check.TheVariants.{Accepted}
 use Rattle.distance.specs.Arcs.{tail, Linked}
 use Rattle.distance.specs.Keys.{key_of}
 
@@ -91,7 +91,7 @@ pub record Rooms (last next front : List ℕ) : Type 0 where
 
 -- what a search with its arcs not yet linked asks: an accepted network, a source and room for the entries
 pub record Askable (net : Network) (source : ℕ) (dist : List ℕ) : Type 0 where
-  pub accepted : network_check net ≡ Accepted
+  pub accepted : network_check net ≡ accepted
   pub source_is : IsNode net source
   pub room : net.nodes < length dist
 

@@ -1,16 +1,16 @@
 -- What filling the table asks.
+use Rattle.model.specs.Refusal.{accepted}
 use Rattle.std.specs.Prelude.{cond, List, ◌≡◌, ℕ, suc, ◌+◌, ◌*◌, ◌≤◌, ◌<◌, eqb, length, get_or, take, drop}
 use Rattle.model.specs.Checks.{network_check}
 use Rattle.model.specs.Distance.{code}
 use Rattle.model.specs.Network.{Network}
 use Rattle.model.specs.NodeDistance.{bounded_distance}
-use Rattle.model.specs.declared.check.Check.TheVariants.{Accepted}
 use Rattle.distance.specs.Answers.{distance_row}
 use Rattle.distance.specs.Arcs.{Linked}
 
 -- an accepted network, an entry for each node in the list of wanted ones, and room for every row
 pub record Fillable (net : Network) (wanted table : List ℕ) : Type 0 where
-  pub accepted : network_check net ≡ Accepted
+  pub accepted : network_check net ≡ accepted
   pub wanted_length : length wanted ≡ net.nodes
   pub room : net.nodes * net.nodes ≤ length table
 

@@ -3,8 +3,6 @@ ghost use Rattle.std.specs.Prelude.{◌≡◌, ℕ, ◌+◌, ◌/◌, ◌≤◌,
 ghost use Rattle.model.specs.Limits.{max_edges};
 ghost use Rattle.distance.specs.Arcs.{tail, Linked};
 
-use model::clear;
-
 // Where an arc begins; with the lists swapped, where it ends.
 pub(crate) fn tail_of(firsts: &[u32], seconds: &[u32], arc: usize) -> u32
     requires { (arc / 2 < length firsts.now) × (arc / 2 < length seconds.now) }
@@ -21,13 +19,11 @@ pub(crate) fn link(nodes: u32, firsts: &[u32], seconds: &[u32], last: &mut [u32]
     requires by_index { (a : ℕ) → a < length firsts.now + length firsts.now → tail firsts.now seconds.now a ≤ nodes }
     ensures { Linked firsts.now seconds.now last.new next.new nodes (length firsts.now + length firsts.now) }
 {
-    clear(last);
+    last.fill(0);
     let arcs = firsts.len() + firsts.len();
-    let mut a = 0;
-    while a < arcs {
+    for a in 0..arcs {
         let v = tail_of(firsts, seconds, a) as usize;
         next[a] = last[v];
         last[v] = (a + 1) as u32;
-        a += 1;
     }
 }

@@ -2,8 +2,6 @@
 ghost use Rattle.std.specs.Prelude.{◌≡◌, ◌+◌, ◌*◌, ◌/◌, ◌%◌, ◌≤◌, ◌<◌, length};
 ghost use Rattle.distance.specs.Keys.{key_of, Least};
 
-use model::lesser;
-
 pub(crate) fn key_of(entry: u32, place: usize) -> u64
     requires { place < 4294967296 }
     ensures { result ≡ key_of entry place }
@@ -28,9 +26,9 @@ fn least_of_four(keys: &[u64], len: usize, at: usize) -> u64
     requires { (at + 4 ≤ len) × (len ≤ length keys.now) }
     ensures { Least keys.now len at (at + 4) result }
 {
-    let one = lesser(keys[at], keys[at + 1]);
-    let other = lesser(keys[at + 2], keys[at + 3]);
-    lesser(one, other)
+    let one = keys[at].min(keys[at + 1]);
+    let other = keys[at + 2].min(keys[at + 3]);
+    one.min(other)
 }
 
 // The least of the keys up to the last full four; any key where there is none.
@@ -38,12 +36,9 @@ pub(crate) fn least_of_fours(keys: &[u64], len: usize) -> u64
     requires { (1 ≤ length keys.now) × (len ≤ length keys.now) }
     ensures { 1 ≤ len → Least keys.now len 0 (len / 4 * 4) result }
 {
-    let fours = len / 4;
     let mut least = keys[0];
-    let mut k = 0;
-    while k < fours {
-        least = lesser(least, least_of_four(keys, len, k * 4));
-        k += 1;
+    for k in 0..len / 4 {
+        least = least.min(least_of_four(keys, len, k * 4));
     }
     least
 }

@@ -1,14 +1,14 @@
 // The bounded search from one node.
 ghost use Rattle.std.specs.Prelude.{◌≡◌, ℕ, ◌+◌, ◌≤◌, ◌<◌, length, get_or};
 ghost use Rattle.model.specs.Limits.{max_nodes};
-ghost use Rattle.model.specs.Network.{network};
+ghost use Rattle.model.specs.Network.{network_of};
 ghost use Rattle.distance.specs.Keys.{Keyed};
 ghost use Rattle.distance.specs.Search.{Ready, Searched, State, Following, Clipped};
 
 use crate::arcs::tail_of;
 use crate::front::{offer, remove};
 use crate::keys::{entry_of, key_of, least_of_fours, place_of};
-use model::{Network, clear, lesser};
+use model::Network;
 
 // Why the search stopped: every node reached is settled, or the nearest one waiting is beyond the bound.
 #[derive(Clone, Copy)]
@@ -19,10 +19,7 @@ enum Stop {
 
 // The entry of every node: 0 where no walk is within the bound, else one more than the least length.
 pub(crate) fn search(
-    nodes: u32,
-    firsts: &[u32],
-    seconds: &[u32],
-    lengths: &[u32],
+    network: Network,
     last: &[u32],
     next: &[u32],
     source: u32,
@@ -30,24 +27,20 @@ pub(crate) fn search(
     dist: &mut [u32],
     front: &mut [u32],
 )
-    requires { Ready (network nodes firsts.now seconds.now lengths.now) last.now next.now source dist.old front.old }
-    ensures { Searched (network nodes firsts.now seconds.now lengths.now) source bound dist.new }
+    requires { Ready (network_of network) last.now next.now source dist.old front.old }
+    ensures { Searched (network_of network.entry) source bound dist.new }
 {
     let mut keys = [0u64; Network::MAX_NODES as usize];
     let mut slots = [0u32; Network::MAX_NODES as usize + 1];
     search_with(
-        nodes, firsts, seconds, lengths, last, next, source, bound, dist, front, &mut keys,
-        &mut slots,
+        network, last, next, source, bound, dist, front, &mut keys, &mut slots,
     );
 }
 
 // Waiting nodes stand in the front in any order; each pick settles the nearest of them, which has the least key: by fours, then the
 // up to three that are left.
 fn search_with(
-    nodes: u32,
-    firsts: &[u32],
-    seconds: &[u32],
-    lengths: &[u32],
+    network: Network,
     last: &[u32],
     next: &[u32],
     source: u32,
@@ -57,17 +50,18 @@ fn search_with(
     keys: &mut [u64],
     slots: &mut [u32],
 )
-    requires ready { Ready (network nodes firsts.now seconds.now lengths.now) last.now next.now source dist.old front.old }
+    requires ready { Ready (network_of network) last.now next.now source dist.old front.old }
     requires max_nodes_in_bounds { (max_nodes ≤ length keys.old) × (max_nodes < length slots.old) }
-    ensures { Searched (network nodes firsts.now seconds.now lengths.now) source bound dist.new }
+    ensures { Searched (network_of network.entry) source bound dist.new }
 {
-    clear(dist);
+    dist.fill(0);
     dist[source as usize] = 1;
     front[0] = source;
     keys[0] = key_of(1, 0);
     slots[source as usize] = 0;
     let mut len = 1;
     let mut picked: usize = 0;
+    // The form of this loop and of the scan in it is fixed (docs/DECISIONS.md, the node-picking loop).
     let stop = 'picking: loop {
         let mut key = least_of_fours(keys, len);
         let mut k = len / 4 * 4;
@@ -78,7 +72,7 @@ fn search_with(
                 }
                 break;
             }
-            key = lesser(key, keys[k]);
+            key = key.min(keys[k]);
             k += 1;
         }
         let least = entry_of(key);
@@ -91,8 +85,7 @@ fn search_with(
         remove(front, keys, slots, len, best);
         picked += 1;
         len = follow(
-            nodes, firsts, seconds, lengths, last, next, source, bound, dist, front, keys, slots,
-            len, picked, v, least,
+            network, last, next, source, bound, dist, front, keys, slots, len, picked, v, least,
         );
     };
     match stop {
@@ -104,10 +97,7 @@ fn search_with(
 // Offers each end of an arc of v the entry of v, which is the least, and the arc's length. Nodes, source, bound and picks are for the
 // contract.
 fn follow(
-    nodes: u32,
-    firsts: &[u32],
-    seconds: &[u32],
-    lengths: &[u32],
+    network: Network,
     last: &[u32],
     next: &[u32],
     source: u32,
@@ -121,18 +111,19 @@ fn follow(
     v: u32,
     least: u32,
 ) -> usize
-    requires ready { Ready (network nodes firsts.now seconds.now lengths.now) last.now next.now source dist.old front.old }
-    requires following { Following (network nodes firsts.now seconds.now lengths.now) source bound dist.old front.old len picked v (length lengths.now + length lengths.now) }
-    requires keyed { Keyed nodes dist.old front.old keys.old slots.old len × (get_or dist.old v 0 ≡ least) }
-    ensures state { State (network nodes firsts.now seconds.now lengths.now) source bound dist.new front.new result picked 0 }
-    ensures keyed_2 { Keyed nodes dist.new front.new keys.new slots.new result }
+    requires ready { Ready (network_of network) last.now next.now source dist.old front.old }
+    requires following { Following (network_of network) source bound dist.old front.old len picked v (length network.lengths.now + length network.lengths.now) }
+    requires keyed { Keyed network.nodes dist.old front.old keys.old slots.old len × (get_or dist.old v 0 ≡ least) }
+    ensures state { State (network_of network.entry) source bound dist.new front.new result picked 0 }
+    ensures keyed_2 { Keyed network.entry.nodes dist.new front.new keys.new slots.new result }
 {
+    // A `while`, since a turn goes from an arc to the one before it in the chain.
     let mut waiting = len;
     let mut h = last[v as usize] as usize;
     while h != 0 {
         let a = h - 1;
-        let w = tail_of(seconds, firsts, a);
-        let entry = least + lengths[a / 2];
+        let w = tail_of(network.seconds, network.firsts, a);
+        let entry = least + network.lengths[a / 2];
         waiting = offer(dist, front, keys, slots, waiting, w, entry);
         h = next[a] as usize;
     }
@@ -156,9 +147,7 @@ fn clipped(entry: u32, bound: u32) -> u32
 pub(crate) fn clip(dist: &mut [u32], bound: u32)
     ensures { (v : ℕ) → Clipped bound (get_or dist.old v 0) (get_or dist.new v 0) }
 {
-    let mut v = 0;
-    while v < dist.len() {
-        dist[v] = clipped(dist[v], bound);
-        v += 1;
+    for entry in dist.iter_mut() {
+        *entry = clipped(*entry, bound);
     }
 }

@@ -1,15 +1,13 @@
 // Totals of 64 bits at rising thresholds.
 ghost use Rattle.edge_pair.specs.Totals.{Changed};
 
-use std::num::{wrapping_add_u64, wrapping_sub_u64};
-
 // Changes the entry at a place by what one number is more than another, and so the totals from it on, modulo 2^64; nothing behind the
 // end of the list.
 pub fn change_from(totals: &mut [u64], place: usize, less: u64, more: u64)
     ensures { Changed place less more totals.old totals.new }
 {
     if place < totals.len() {
-        let raised = wrapping_add_u64(totals[place], more);
-        totals[place] = wrapping_sub_u64(raised, less);
+        let raised = totals[place].wrapping_add(more);
+        totals[place] = raised.wrapping_sub(less);
     }
 }

@@ -4,7 +4,6 @@ ghost use Rattle.edge_pair.specs.Edges.{side_of};
 ghost use Rattle.edge_pair.specs.Ways.{far, way, to_end_of, shortest_route_of, greatest_distance_of};
 
 use crate::edges::{EdgePair, code_between};
-use model::{less, lesser};
 
 // Stands for no way: above every threshold, and so are the sums it stands in.
 pub const FAR: u64 = 1099511627776;
@@ -22,8 +21,8 @@ pub fn to_end(edges: EdgePair, x: u32, first2: bool) -> u64
 {
     let by_first = way(code_between(edges, true, first2));
     let by_second = way(code_between(edges, false, first2));
-    let rest = less(edges.length1 as u64, x as u64);
-    lesser(x as u64 + by_first, rest + by_second)
+    let rest = (edges.length1 as u64).saturating_sub(x as u64);
+    (x as u64 + by_first).min(rest + by_second)
 }
 
 // The metres of the shortest route between two edges, than which no place of the one is nearer to one of the other. 0 on one edge.
@@ -37,7 +36,7 @@ pub fn shortest_route(edges: EdgePair) -> u64
     let fs = way(edges.fs);
     let sf = way(edges.sf);
     let ss = way(edges.ss);
-    lesser(lesser(ff, fs), lesser(sf, ss))
+    ff.min(fs).min(sf.min(ss))
 }
 
 // The metres of two ways together.
@@ -53,6 +52,6 @@ fn both(a: u32, b: u32) -> u64
 pub fn greatest_distance(edges: EdgePair) -> u64
     ensures { result ≡ greatest_distance_of edges }
 {
-    let ways = lesser(both(edges.ff, edges.ss), both(edges.fs, edges.sf));
+    let ways = both(edges.ff, edges.ss).min(both(edges.fs, edges.sf));
     (ways + edges.length1 as u64 + edges.length2 as u64) / 2
 }

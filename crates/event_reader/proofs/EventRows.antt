@@ -1,4 +1,8 @@
 -- The rows of a report text, line by line into three lists.
+use Rattle.std.specs.Prelude.{Result, Ok, Err}
+use Rattle.model.specs.declared.refusal.Fault.{Fault}
+use Rattle.model.specs.declared.refusal.Refusal.{Refusal}
+use Rattle.model.specs.declared.refusal.Fault.TheVariants.{NoHeader}
 use mathlib.Core.Bool.{false}
 use mathlib.Core.List.{List, [], ◌∷◌}
 use mathlib.Core.Path.{◌≡◌, refl, ◌∙◌}
@@ -11,7 +15,7 @@ use Rattle.model.specs.Network.{Network}
 use Rattle.text.specs.Fields.{same_bytes_of}
 use Rattle.text.specs.Lines.{csv_lines}
 use Rattle.text.proofs.Laws.Lines.{NextLine}
-use Rattle.text.specs.Reading.{taken, refused, refused_at, read_lines, require, no_header}
+use Rattle.text.specs.Reading.{taken, refused, refused_at, read_lines, require}
 use Rattle.text.specs.EventText.{Row, EventState, before_header, rows, take_numbers_of, event_step, event_end, event_lines, event_header, row}
 use Rattle.text.specs.declared.fields.Numbers.{Numbers}
 use Rattle.text.specs.declared.fields.Numbers.TheVariants.{Nothing, One, Two, Three}
@@ -20,10 +24,6 @@ use Rattle.reading.specs.Header.{is_headed}
 use Rattle.reading.proofs.Headed.{RowsAt, no_lines, rows_left, no_rows, rows_are}
 use Rattle.text.specs.Parallel.{Level}
 use Rattle.reading.specs.Answers.{entries}
-use Rattle.reading.specs.declared.answers.ReadList.{ReadList}
-use Rattle.reading.specs.declared.answers.ReadList.TheVariants as list-answer
-use Rattle.reading.specs.declared.line.LineRead.{LineRead}
-use Rattle.reading.specs.declared.line.LineRead.TheVariants as line-answer
 use Rattle.reading.proofs.Progress.{Progress, rest, begins, goes_on, stops, all_read}
 use Rattle.event_reader.specs.Steps.{rows_in, rows_after, all_rows, EventRows, EventsTaken}
 use Rattle.event_reader.proofs.RowSteps.{RowTaken, row-taken, rows-length}
@@ -48,9 +48,9 @@ rows-begin lengths bytes sets edges offsets l =
     record { few = omega arith; level = l; progress = begins csv_lines (event_step (with_lengths lengths)) 2 (rows []) bytes }
 
 -- A row, from what a line's step answers.
-module _ {lengths bytes sets edges offsets : List ℕ} {at count : ℕ} (t : RowsSoFar lengths bytes sets edges offsets at count) {end onward : ℕ} (h : at < length bytes) (n : NextLine csv_lines (rest bytes at) end onward) {r : LineRead} {sets' edges' offsets' : List ℕ} (e : event_step (with_lengths lengths) (rows (rows_in count sets edges offsets)) (take end (rest bytes at)) ≡ rows_after r count sets' edges' offsets') where
+module _ {lengths bytes sets edges offsets : List ℕ} {at count : ℕ} (t : RowsSoFar lengths bytes sets edges offsets at count) {end onward : ℕ} (h : at < length bytes) (n : NextLine csv_lines (rest bytes at) end onward) {r : Result (Unit {0}) Fault} {sets' edges' offsets' : List ℕ} (e : event_step (with_lengths lengths) (rows (rows_in count sets edges offsets)) (take end (rest bytes at)) ≡ rows_after r count sets' edges' offsets') where
   -- it is taken
-  pub one-taken : r ≡ line-answer.Taken → Level max_events sets' edges' offsets' → RowsSoFar lengths bytes sets' edges' offsets' (at + onward) (count + 1)
+  pub one-taken : r ≡ Ok tt → Level max_events sets' edges' offsets' → RowsSoFar lengths bytes sets' edges' offsets' (at + onward) (count + 1)
   unfolding rows_after event_step
   one-taken is level =
       let after : event_step (with_lengths lengths) (rows (rows_in count sets edges offsets)) (take end (rest bytes at)) ≡ taken (rows (rows_in (suc count) sets' edges' offsets')) = e ∙ rw is in
@@ -62,34 +62,34 @@ module _ {lengths bytes sets edges offsets : List ℕ} {at count : ℕ} (t : Row
       }
 
   -- it is refused
-  pub one-refused : {number : ℕ} → r ≡ line-answer.Refused number → EventRows lengths bytes (list-answer.Refused number (count + 2)) sets' edges' offsets'
+  pub one-refused : {fault : Fault} → r ≡ Err fault → EventRows lengths bytes (Err (record { fault = fault; place = count + 2 })) sets' edges' offsets'
   unfolding rows_after all_rows event_end entries
-  one-refused {number} is =
-      let after : event_step (with_lengths lengths) (rows (rows_in count sets edges offsets)) (take end (rest bytes at)) ≡ refused number = e ∙ rw is in
+  one-refused {fault} is =
+      let after : event_step (with_lengths lengths) (rows (rows_in count sets edges offsets)) (take end (rest bytes at)) ≡ refused fault = e ∙ rw is in
       record { outcome = rw (stops t.progress h n after); few = omega arith }
 
 -- all rows are read
-pub rows_end : {lengths bytes sets edges offsets : List ℕ} {at count : ℕ} → RowsSoFar lengths bytes sets edges offsets at count → length bytes ≤ at → EventRows lengths bytes (list-answer.Read count) sets edges offsets
+pub rows_end : {lengths bytes sets edges offsets : List ℕ} {at count : ℕ} → RowsSoFar lengths bytes sets edges offsets at count → length bytes ≤ at → EventRows lengths bytes (Ok count) sets edges offsets
 unfolding all_rows event_end entries
 rows_end t end = record { outcome = rw (all_read t.progress no_lines end); few = t.few }
 
 -- the first step asks for the header
-asks : (net : Network) (line : List ℕ) → event_step net before_header line ≡ require (same_bytes_of line event_header) no_header (taken (rows []))
+asks : (net : Network) (line : List ℕ) → event_step net before_header line ≡ require (same_bytes_of line event_header) NoHeader (taken (rows []))
 unfolding event_step
 asks net line = refl
 
-no-header : (net : Network) (lines : List (List ℕ)) → is_headed event_header lines ≡ false → event_lines net lines ≡ refused_at no_header 1
+no-header : (net : Network) (lines : List (List ℕ)) → is_headed event_header lines ≡ false → event_lines net lines ≡ refused_at NoHeader 1
 unfolding event_lines event_end read_lines
 no-header net [] e = refl
 no-header net (line ∷ more) e = rw (no_rows event_header (event_step net) before_header (rows []) (asks net) line more e)
 
 -- a text with no header is refused
-pub text-refused : (lengths bytes sets edges offsets : List ℕ) → is_headed event_header (csv_lines bytes) ≡ false → EventsTaken lengths bytes (list-answer.Refused no_header 1) sets edges offsets
+pub text-refused : (lengths bytes sets edges offsets : List ℕ) → is_headed event_header (csv_lines bytes) ≡ false → EventsTaken lengths bytes (Err (record { fault = NoHeader; place = 1 })) sets edges offsets
 unfolding all_rows entries
 text-refused lengths bytes sets edges offsets e = record { outcome = no-header (with_lengths lengths) (csv_lines bytes) e; few = omega arith }
 
 -- a text comes to what its rows come to
-pub text-taken : {lengths bytes sets edges offsets : List ℕ} {n : ℕ} {r : ReadList} → RowsAt event_header bytes n → EventRows lengths (rest bytes n) r sets edges offsets → EventsTaken lengths bytes r sets edges offsets
+pub text-taken : {lengths bytes sets edges offsets : List ℕ} {n : ℕ} {r : Result ℕ Refusal} → RowsAt event_header bytes n → EventRows lengths (rest bytes n) r sets edges offsets → EventsTaken lengths bytes r sets edges offsets
 unfolding event_lines
 text-taken {lengths} {bytes} h t =
     record {

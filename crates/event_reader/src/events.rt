@@ -1,63 +1,65 @@
 // Reading a report text over a network's lengths.
 ghost use Rattle.std.specs.Prelude.{◌≡◌, ◌≤◌};
-ghost use Rattle.model.specs.Checks.{network_check};
 ghost use Rattle.model.specs.Limits.{max_events};
-ghost use Rattle.model.specs.Network.{network};
-ghost use Rattle.model.specs.Refusal.{or_else};
-ghost use Rattle.text.specs.EventText.{take_row, take_numbers_of, event_step, rows, row};
-ghost use Rattle.text.specs.Reading.{length_check};
+ghost use Rattle.model.specs.Network.{network_of};
+ghost use Rattle.text.specs.EventText.{take_row, take_numbers_of, event_step, rows};
 ghost use Rattle.validate.specs.Part.{with_lengths};
 ghost use Rattle.text.specs.Parallel.{Level};
-ghost use Rattle.event_reader.specs.Answers.{EventsRead};
-ghost use Rattle.event_reader.specs.Steps.{rows_in, rows_after, RowChecked, EventRows, EventsTaken, RowsAnswered};
+ghost use Rattle.event_reader.specs.Steps.{row_of, rows_in, rows_after, RowChecked, EventRows, EventsTaken, RowsAnswered};
 
-use model::{Check, EventSet};
-use reading::{Header, LineRead, ReadList, answer_three, check_length, read_header};
+use model::{EventSet, Fault, Network, Refusal, Reports};
+use reading::{answer_three, read_header};
 use text::Numbers;
+use validate::check_sets;
+
+// A row as a line gives it.
+#[derive(Clone, Copy)]
+struct Row {
+    set: u32,
+    edge: u32,
+    offset: u32,
+}
 
 // 12 to 15 for one more row behind `count` others.
-fn check_row(lengths: &[u32], count: usize, set: u32, edge: u32, offset: u32) -> LineRead
-    ensures { RowChecked lengths.now count (row set edge offset) result }
+fn check_row(lengths: &[u32], count: usize, row: Row) -> Result<(), Fault>
+    ensures { RowChecked lengths.now count (row_of row) result }
 {
-    if !EventSet::is_set(set) {
-        return LineRead::Refused(Check::BAD_SET);
+    if !EventSet::is_set(row.set) {
+        return Err(Fault::BadSet);
     }
-    if !model::is_between(1, lengths.len() as u64, edge as u64) {
-        return LineRead::Refused(Check::NO_EDGE);
+    if !model::is_between(1, lengths.len() as u64, row.edge as u64) {
+        return Err(Fault::NoEdge);
     }
-    if lengths[edge as usize - 1] < offset {
-        return LineRead::Refused(Check::BEYOND_EDGE);
+    if lengths[row.edge as usize - 1] < row.offset {
+        return Err(Fault::BeyondEdge);
     }
     if EventSet::MAX_EVENTS <= count {
-        return LineRead::Refused(Check::TOO_MANY_EVENTS);
+        return Err(Fault::TooManyEvents);
     }
-    LineRead::Taken
+    Ok(())
 }
 
 // One more row, stored behind the first `count`.
 fn take_row(
     lengths: &[u32],
-    set: u32,
-    edge: u32,
-    offset: u32,
+    row: Row,
     count: usize,
     sets: &mut [u32],
     edges: &mut [u32],
     offsets: &mut [u32],
-) -> LineRead
+) -> Result<(), Fault>
     requires { (count ≤ max_events) × Level max_events sets.old edges.old offsets.old }
-    ensures { take_row (with_lengths lengths.now) (rows_in count sets.old edges.old offsets.old) (row set edge offset) ≡ rows_after result count sets.new edges.new offsets.new }
+    ensures { take_row (with_lengths lengths.now) (rows_in count sets.old edges.old offsets.old) (row_of row) ≡ rows_after result count sets.new edges.new offsets.new }
 {
-    if let LineRead::Refused(number) = check_row(lengths, count, set, edge, offset) {
-        return LineRead::Refused(number);
-    }
-    sets[count] = set;
-    edges[count] = edge;
-    offsets[count] = offset;
-    LineRead::Taken
+    check_row(lengths, count, row)?;
+    sets[count] = row.set;
+    edges[count] = row.edge;
+    offsets[count] = row.offset;
+    Ok(())
 }
 
 // A row has three numbers.
+#[tactic(auto, unfolding(crate::specs::Steps::rows_after, text::specs::EventText::take_numbers_of))]
 fn take_numbers(
     lengths: &[u32],
     numbers: Numbers,
@@ -65,17 +67,22 @@ fn take_numbers(
     sets: &mut [u32],
     edges: &mut [u32],
     offsets: &mut [u32],
-) -> LineRead
+) -> Result<(), Fault>
     requires { (count ≤ max_events) × Level max_events sets.old edges.old offsets.old }
     ensures { take_numbers_of (with_lengths lengths.now) (rows_in count sets.old edges.old offsets.old) numbers ≡ rows_after result count sets.new edges.new offsets.new }
 {
     match numbers {
         Numbers::Three(set, edge, offset) => {
-            take_row(lengths, set, edge, offset, count, sets, edges, offsets)
+            take_row(
+                lengths,
+                Row { set, edge, offset },
+                count,
+                sets,
+                edges,
+                offsets,
+            )
         }
-        Numbers::Nothing => LineRead::Refused(Check::NO_FORM),
-        Numbers::One(_) => LineRead::Refused(Check::NO_FORM),
-        Numbers::Two(_, _) => LineRead::Refused(Check::NO_FORM),
+        _ => Err(Fault::NoForm),
     }
 }
 
@@ -87,7 +94,7 @@ fn take_line(
     sets: &mut [u32],
     edges: &mut [u32],
     offsets: &mut [u32],
-) -> LineRead
+) -> Result<(), Fault>
     requires { (count ≤ max_events) × Level max_events sets.old edges.old offsets.old }
     ensures { event_step (with_lengths lengths.now) (rows (rows_in count sets.old edges.old offsets.old)) line.now ≡ rows_after result count sets.new edges.new offsets.new }
 {
@@ -108,119 +115,58 @@ fn take_rows(
     sets: &mut [u32],
     edges: &mut [u32],
     offsets: &mut [u32],
-) -> ReadList
+) -> Result<usize, Refusal>
     requires { Level max_events sets.old edges.old offsets.old }
     ensures { EventRows lengths.now text.now result sets.new edges.new offsets.new }
 {
     let mut at = 0;
     let mut count = 0;
+    // Each turn goes on by as many bytes as the line has, so this is no `for`.
     while at < text.len() {
         let rest = &text[at..];
         let line = text::csv_line(rest);
         let end = line.end;
-        if let LineRead::Refused(number) = take_line(
-            lengths,
-            &rest[..end],
-            count,
-            sets,
-            edges,
-            offsets,
-        ) {
-            return ReadList::Refused(number, count + 2);
-        }
+        take_line(lengths, &rest[..end], count, sets, edges, offsets).map_err(|fault| Refusal {
+            fault,
+            place: count + 2,
+        })?;
         at += line.next;
         count += 1;
     }
-    ReadList::Read(count)
+    Ok(count)
 }
 
 // A whole text into the lists.
-fn take_text(
+pub(crate) fn take_text(
     lengths: &[u32],
     text: &[u8],
     sets: &mut [u32],
     edges: &mut [u32],
     offsets: &mut [u32],
-) -> ReadList
+) -> Result<usize, Refusal>
     requires { Level max_events sets.old edges.old offsets.old }
     ensures { EventsTaken lengths.now text.now result sets.new edges.new offsets.new }
 {
     match read_header(b"set,leg,offset", text) {
-        Header::Missing => ReadList::Refused(Check::NO_HEADER, 1),
-        Header::RowsFrom(start) => take_rows(lengths, &text[start..], sets, edges, offsets),
+        Some(start) => take_rows(lengths, &text[start..], sets, edges, offsets),
+        None => Err(Refusal {
+            fault: Fault::NoHeader,
+            place: 1,
+        }),
     }
-}
-
-// 1, then the faults of the lent network.
-fn check_lent(text: &[u8], nodes: u32, firsts: &[u32], seconds: &[u32], lengths: &[u32]) -> Check
-    ensures { result ≡ or_else (length_check text.now) (network_check (network nodes firsts.now seconds.now lengths.now)) }
-{
-    let length = check_length(text);
-    if let Check::Refused(_, _) = length {
-        return length;
-    }
-    validate::check_network(nodes, firsts, seconds, lengths)
 }
 
 // The rows that were read pass every check of lists but 16; then 2, or the answer lists filled.
-fn answer_rows(
-    nodes: u32,
-    firsts: &[u32],
-    seconds: &[u32],
-    lengths: &[u32],
-    xs: &[u32],
-    ys: &[u32],
-    zs: &[u32],
+pub(crate) fn answer_rows(
+    network: Network,
+    read: Reports,
     sets: &mut [u32],
     edges: &mut [u32],
     offsets: &mut [u32],
-) -> ReadList
-    ensures { RowsAnswered (network nodes firsts.now seconds.now lengths.now) xs.now ys.now zs.now sets.old edges.old offsets.old result sets.new edges.new offsets.new }
+) -> Result<usize, Refusal>
+    ensures { RowsAnswered (network_of network.entry) read.entry.sets.now read.entry.edges.now read.entry.offsets.now sets.old edges.old offsets.old result sets.new edges.new offsets.new }
 {
-    if let Check::Refused(number, place) = validate::check_sets(
-        nodes, firsts, seconds, lengths, xs, ys, zs,
-    ) {
-        return ReadList::Refused(number, place);
-    }
-    if let Check::Refused(number, place) = answer_three(xs, ys, zs, sets, edges, offsets) {
-        return ReadList::Refused(number, place);
-    }
-    ReadList::Read(xs.len())
-}
-
-// A whole text, by way of lists that have room for every text's rows: nothing is answered before all is read.
-pub(crate) fn read_through(
-    text: &[u8],
-    nodes: u32,
-    firsts: &[u32],
-    seconds: &[u32],
-    lengths: &[u32],
-    xs: &mut [u32],
-    ys: &mut [u32],
-    zs: &mut [u32],
-    sets: &mut [u32],
-    edges: &mut [u32],
-    offsets: &mut [u32],
-) -> ReadList
-    requires { Level max_events xs.old ys.old zs.old }
-    ensures { EventsRead (network nodes firsts.now seconds.now lengths.now) text.now sets.old edges.old offsets.old result sets.new edges.new offsets.new }
-{
-    if let Check::Refused(number, place) = check_lent(text, nodes, firsts, seconds, lengths) {
-        return ReadList::Refused(number, place);
-    }
-    match take_text(lengths, text, xs, ys, zs) {
-        ReadList::Refused(number, place) => ReadList::Refused(number, place),
-        ReadList::Read(count) => answer_rows(
-            nodes,
-            firsts,
-            seconds,
-            lengths,
-            &xs[..count],
-            &ys[..count],
-            &zs[..count],
-            sets,
-            edges,
-            offsets,
-        ),
-    }
+    check_sets(network, read)?;
+    answer_three(read.sets, read.edges, read.offsets, sets, edges, offsets)?;
+    Ok(read.sets.len())
 }

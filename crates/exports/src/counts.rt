@@ -6,6 +6,7 @@ ghost use Rattle.exports.specs.Told.{Told};
 
 use crate::told;
 use counting::{Method, counts};
+use model::{Network, Reports};
 
 // By a range query.
 #[unsafe(no_mangle)]
@@ -25,19 +26,19 @@ pub extern "C" fn kc_range_counts(
     ensures told { Told (counts_check (network nodes firsts.now seconds.now lengths.now) sets.now edges.now offsets.now thresholds.now (length answers.old)) number.new place.new }
     ensures counts_answered { CountsAnswered (network nodes firsts.now seconds.now lengths.now) sets.now edges.now offsets.now thresholds.now answers.old (counts_check (network nodes firsts.now seconds.now lengths.now) sets.now edges.now offsets.now thresholds.now (length answers.old)) answers.new }
 {
-    let answer = counts(
-        Method::RangeQuery,
+    let network = Network {
         nodes,
         firsts,
         seconds,
         lengths,
+    };
+    let reports = Reports {
         sets,
         edges,
         offsets,
-        thresholds,
-        answers,
-    );
-    told::tell(answer, number, place);
+    };
+    let answer = counts(Method::RangeQuery, network, reports, thresholds, answers);
+    told::tell(answer, (), number, place);
 }
 
 // By numbers stored with the events.
@@ -58,19 +59,25 @@ pub extern "C" fn kc_augmentation_counts(
     ensures told { Told (counts_check (network nodes firsts.now seconds.now lengths.now) sets.now edges.now offsets.now thresholds.now (length answers.old)) number.new place.new }
     ensures counts_answered { CountsAnswered (network nodes firsts.now seconds.now lengths.now) sets.now edges.now offsets.now thresholds.now answers.old (counts_check (network nodes firsts.now seconds.now lengths.now) sets.now edges.now offsets.now thresholds.now (length answers.old)) answers.new }
 {
-    let answer = counts(
-        Method::CountAugmentation,
+    let network = Network {
         nodes,
         firsts,
         seconds,
         lengths,
+    };
+    let reports = Reports {
         sets,
         edges,
         offsets,
+    };
+    let answer = counts(
+        Method::CountAugmentation,
+        network,
+        reports,
         thresholds,
         answers,
     );
-    told::tell(answer, number, place);
+    told::tell(answer, (), number, place);
 }
 
 // By cursors that neighbouring events share.
@@ -91,17 +98,23 @@ pub extern "C" fn kc_sharing_counts(
     ensures told { Told (counts_check (network nodes firsts.now seconds.now lengths.now) sets.now edges.now offsets.now thresholds.now (length answers.old)) number.new place.new }
     ensures counts_answered { CountsAnswered (network nodes firsts.now seconds.now lengths.now) sets.now edges.now offsets.now thresholds.now answers.old (counts_check (network nodes firsts.now seconds.now lengths.now) sets.now edges.now offsets.now thresholds.now (length answers.old)) answers.new }
 {
-    let answer = counts(
-        Method::NeighborSharing,
+    let network = Network {
         nodes,
         firsts,
         seconds,
         lengths,
+    };
+    let reports = Reports {
         sets,
         edges,
         offsets,
+    };
+    let answer = counts(
+        Method::NeighborSharing,
+        network,
+        reports,
         thresholds,
         answers,
     );
-    told::tell(answer, number, place);
+    told::tell(answer, (), number, place);
 }

@@ -5,6 +5,7 @@ ghost use Rattle.sweep.specs.Answers.{cursors_check, CursorsAnswered};
 ghost use Rattle.exports.specs.Told.{Told};
 
 use crate::told;
+use model::Network;
 
 // With each event of a laid-out set, how many on its edge lie no farther from the first end, and from the second.
 #[unsafe(no_mangle)]
@@ -23,17 +24,14 @@ pub extern "C" fn kc_augment(
     ensures told { Told (augment_check (network nodes firsts.now seconds.now lengths.now) edges.now offsets.now near_first.old near_second.old) number.new place.new }
     ensures augmented { Augmented (network nodes firsts.now seconds.now lengths.now) edges.now offsets.now near_first.old near_second.old (augment_check (network nodes firsts.now seconds.now lengths.now) edges.now offsets.now near_first.old near_second.old) near_first.new near_second.new }
 {
-    let answer = count_augmentation::augment(
+    let network = Network {
         nodes,
         firsts,
         seconds,
         lengths,
-        edges,
-        offsets,
-        near_first,
-        near_second,
-    );
-    told::tell(answer, number, place);
+    };
+    let answer = count_augmentation::augment(network, edges, offsets, near_first, near_second);
+    told::tell(answer, (), number, place);
 }
 
 // The cursors of two edges of a laid-out set: six positions for each event on the first, and six sums of moves.
@@ -58,9 +56,14 @@ pub extern "C" fn kc_cursors(
     ensures told { Told (cursors_check (network nodes firsts.now seconds.now lengths.now) edges.now offsets.now edge1 edge2 positions.old moves.old) number.new place.new }
     ensures cursors_answered { CursorsAnswered (network nodes firsts.now seconds.now lengths.now) edges.now offsets.now edge1 edge2 threshold bound positions.old moves.old (cursors_check (network nodes firsts.now seconds.now lengths.now) edges.now offsets.now edge1 edge2 positions.old moves.old) positions.new moves.new }
 {
+    let network = Network {
+        nodes,
+        firsts,
+        seconds,
+        lengths,
+    };
     let answer = sweep::cursors(
-        nodes, firsts, seconds, lengths, edges, offsets, edge1, edge2, threshold, bound, positions,
-        moves,
+        network, edges, offsets, edge1, edge2, threshold, bound, positions, moves,
     );
-    told::tell(answer, number, place);
+    told::tell(answer, (), number, place);
 }

@@ -13,11 +13,13 @@ ghost use Rattle.layout.specs.Layout.{LaidOut};
 ghost use Rattle.distance.specs.Answers.{row_check, RowAnswered, table_check, TableAnswered};
 ghost use Rattle.between.specs.Answers.{node_answer, bounded_node_answer, location_answer};
 ghost use Rattle.perimeter.specs.Answers.{perimeter_answer};
-ghost use Rattle.reading.specs.Answers.{list_answer, entries};
+ghost use Rattle.model.specs.Answer.{answer};
 ghost use Rattle.threshold_reader.specs.Answers.{threshold_text_check, text_thresholds, ThresholdsRead};
 ghost use Rattle.event_reader.specs.Answers.{event_text_check, text_rows, EventsRead};
 ghost use Rattle.network_reader.specs.Answers.{network_answer, network_text_check, text_network, NetworkRead};
-ghost use Rattle.exports.specs.Told.{Told, ToldWith, length_verdict, length_code, bounded_verdict, bounded_code, count_verdict, count_of, list_verdict, ToldNetwork};
+ghost use Rattle.exports.specs.Told.{Told, ToldWith, verdict_of, length_code, count_of, ToldNetwork};
+
+use model::Network;
 
 // The events of one set, sorted in place by edge and then by offset.
 #[unsafe(no_mangle)]
@@ -31,7 +33,7 @@ pub extern "C" fn kc_lay_out(
     ensures laid_out { LaidOut edges.old offsets.old (layout_check edges.old offsets.old) edges.new offsets.new }
 {
     let answer = layout::lay_out(edges, offsets);
-    told::tell(answer, number, place);
+    told::tell(answer, (), number, place);
 }
 
 // The bounded distance from the source to each node, in node order: 0 where it is beyond, else one more than the metres.
@@ -50,8 +52,14 @@ pub extern "C" fn kc_distances_from(
     ensures told { Told (row_check (network nodes firsts.now seconds.now lengths.now) source answers.old) number.new place.new }
     ensures row_answered { RowAnswered (network nodes firsts.now seconds.now lengths.now) source bound answers.old (row_check (network nodes firsts.now seconds.now lengths.now) source answers.old) answers.new }
 {
-    let answer = distance::distances_from(nodes, firsts, seconds, lengths, source, bound, answers);
-    told::tell(answer, number, place);
+    let network = Network {
+        nodes,
+        firsts,
+        seconds,
+        lengths,
+    };
+    let answer = distance::distances_from(network, source, bound, answers);
+    told::tell(answer, (), number, place);
 }
 
 // Rows of bounded distances from every node that is wanted (its entry of the list is not 0); the other rows stay as they were.
@@ -70,8 +78,14 @@ pub extern "C" fn kc_end_distances(
     ensures told { Told (table_check (network nodes firsts.now seconds.now lengths.now) wanted.now table.old) number.new place.new }
     ensures table_answered { TableAnswered (network nodes firsts.now seconds.now lengths.now) bound wanted.now table.old (table_check (network nodes firsts.now seconds.now lengths.now) wanted.now table.old) table.new }
 {
-    let answer = distance::end_distances(nodes, firsts, seconds, lengths, bound, wanted, table);
-    told::tell(answer, number, place);
+    let network = Network {
+        nodes,
+        firsts,
+        seconds,
+        lengths,
+    };
+    let answer = distance::end_distances(network, bound, wanted, table);
+    told::tell(answer, (), number, place);
 }
 
 // One more than the metres from u to v; 0 for no walk or refused.
@@ -86,9 +100,15 @@ pub extern "C" fn kc_node_distance(
     number: &mut u32,
     place: &mut usize,
 ) -> u64
-    ensures { ToldWith (length_verdict (node_answer (network nodes firsts.now seconds.now lengths.now) u v)) (length_code (node_answer (network nodes firsts.now seconds.now lengths.now) u v)) result number.new place.new }
+    ensures { ToldWith (verdict_of (node_answer (network nodes firsts.now seconds.now lengths.now) u v)) (length_code (node_answer (network nodes firsts.now seconds.now lengths.now) u v)) result number.new place.new }
 {
-    let answer = between::node_distance(nodes, firsts, seconds, lengths, u, v);
+    let network = Network {
+        nodes,
+        firsts,
+        seconds,
+        lengths,
+    };
+    let answer = between::node_distance(network, u, v);
     told::tell_length(answer, number, place)
 }
 
@@ -105,10 +125,16 @@ pub extern "C" fn kc_bounded_node_distance(
     number: &mut u32,
     place: &mut usize,
 ) -> u64
-    ensures { ToldWith (bounded_verdict (bounded_node_answer (network nodes firsts.now seconds.now lengths.now) bound u v)) (bounded_code (bounded_node_answer (network nodes firsts.now seconds.now lengths.now) bound u v)) result number.new place.new }
+    ensures { ToldWith (verdict_of (bounded_node_answer (network nodes firsts.now seconds.now lengths.now) bound u v)) (length_code (bounded_node_answer (network nodes firsts.now seconds.now lengths.now) bound u v)) result number.new place.new }
 {
-    let answer = between::bounded_node_distance(nodes, firsts, seconds, lengths, bound, u, v);
-    told::tell_bounded(answer, number, place)
+    let network = Network {
+        nodes,
+        firsts,
+        seconds,
+        lengths,
+    };
+    let answer = between::bounded_node_distance(network, bound, u, v);
+    told::tell_length(answer, number, place)
 }
 
 // The same of two locations, each an edge number and an offset.
@@ -125,11 +151,15 @@ pub extern "C" fn kc_location_distance(
     number: &mut u32,
     place: &mut usize,
 ) -> u64
-    ensures { ToldWith (length_verdict (location_answer (network nodes firsts.now seconds.now lengths.now) edge1 offset1 edge2 offset2)) (length_code (location_answer (network nodes firsts.now seconds.now lengths.now) edge1 offset1 edge2 offset2)) result number.new place.new }
+    ensures { ToldWith (verdict_of (location_answer (network nodes firsts.now seconds.now lengths.now) edge1 offset1 edge2 offset2)) (length_code (location_answer (network nodes firsts.now seconds.now lengths.now) edge1 offset1 edge2 offset2)) result number.new place.new }
 {
-    let answer = between::location_distance(
-        nodes, firsts, seconds, lengths, edge1, offset1, edge2, offset2,
-    );
+    let network = Network {
+        nodes,
+        firsts,
+        seconds,
+        lengths,
+    };
+    let answer = between::location_distance(network, edge1, offset1, edge2, offset2);
     told::tell_length(answer, number, place)
 }
 
@@ -146,10 +176,16 @@ pub extern "C" fn kc_perimeter_count(
     number: &mut u32,
     place: &mut usize,
 ) -> u32
-    ensures { ToldWith (count_verdict (perimeter_answer (network nodes firsts.now seconds.now lengths.now) edge offset radius)) (count_of (perimeter_answer (network nodes firsts.now seconds.now lengths.now) edge offset radius)) result number.new place.new }
+    ensures { ToldWith (verdict_of (perimeter_answer (network nodes firsts.now seconds.now lengths.now) edge offset radius)) (count_of (perimeter_answer (network nodes firsts.now seconds.now lengths.now) edge offset radius)) result number.new place.new }
 {
-    let answer = perimeter::perimeter_count(nodes, firsts, seconds, lengths, edge, offset, radius);
-    told::tell_count(answer, number, place)
+    let network = Network {
+        nodes,
+        firsts,
+        seconds,
+        lengths,
+    };
+    let answer = perimeter::perimeter_count(network, edge, offset, radius);
+    told::tell(answer, 0, number, place)
 }
 
 // How many thresholds were read from a text; 0 where refused.
@@ -160,11 +196,11 @@ pub extern "C" fn kc_read_thresholds(
     number: &mut u32,
     place: &mut usize,
 ) -> usize
-    ensures told_with { ToldWith (list_verdict (list_answer (threshold_text_check text.now thresholds.old) (length (text_thresholds text.now)))) (entries (list_answer (threshold_text_check text.now thresholds.old) (length (text_thresholds text.now)))) result number.new place.new }
-    ensures thresholds_read { ThresholdsRead text.now thresholds.old (list_answer (threshold_text_check text.now thresholds.old) (length (text_thresholds text.now))) thresholds.new }
+    ensures told_with { ToldWith (verdict_of (answer (threshold_text_check text.now thresholds.old) (length (text_thresholds text.now)))) (count_of (answer (threshold_text_check text.now thresholds.old) (length (text_thresholds text.now)))) result number.new place.new }
+    ensures thresholds_read { ThresholdsRead text.now thresholds.old (answer (threshold_text_check text.now thresholds.old) (length (text_thresholds text.now))) thresholds.new }
 {
     let answer = threshold_reader::read_thresholds(text, thresholds);
-    told::tell_list(answer, number, place)
+    told::tell(answer, 0, number, place)
 }
 
 // How many events were read from a report text over a network; 0 where refused.
@@ -181,13 +217,17 @@ pub extern "C" fn kc_read_events(
     number: &mut u32,
     place: &mut usize,
 ) -> usize
-    ensures told_with { ToldWith (list_verdict (list_answer (event_text_check (network nodes firsts.now seconds.now lengths.now) text.now sets.old edges.old offsets.old) (length (text_rows (network nodes firsts.now seconds.now lengths.now) text.now)))) (entries (list_answer (event_text_check (network nodes firsts.now seconds.now lengths.now) text.now sets.old edges.old offsets.old) (length (text_rows (network nodes firsts.now seconds.now lengths.now) text.now)))) result number.new place.new }
-    ensures events_read { EventsRead (network nodes firsts.now seconds.now lengths.now) text.now sets.old edges.old offsets.old (list_answer (event_text_check (network nodes firsts.now seconds.now lengths.now) text.now sets.old edges.old offsets.old) (length (text_rows (network nodes firsts.now seconds.now lengths.now) text.now))) sets.new edges.new offsets.new }
+    ensures told_with { ToldWith (verdict_of (answer (event_text_check (network nodes firsts.now seconds.now lengths.now) text.now sets.old edges.old offsets.old) (length (text_rows (network nodes firsts.now seconds.now lengths.now) text.now)))) (count_of (answer (event_text_check (network nodes firsts.now seconds.now lengths.now) text.now sets.old edges.old offsets.old) (length (text_rows (network nodes firsts.now seconds.now lengths.now) text.now)))) result number.new place.new }
+    ensures events_read { EventsRead (network nodes firsts.now seconds.now lengths.now) text.now sets.old edges.old offsets.old (answer (event_text_check (network nodes firsts.now seconds.now lengths.now) text.now sets.old edges.old offsets.old) (length (text_rows (network nodes firsts.now seconds.now lengths.now) text.now))) sets.new edges.new offsets.new }
 {
-    let answer = event_reader::read_events(
-        text, nodes, firsts, seconds, lengths, sets, edges, offsets,
-    );
-    told::tell_list(answer, number, place)
+    let network = Network {
+        nodes,
+        firsts,
+        seconds,
+        lengths,
+    };
+    let answer = event_reader::read_events(text, network, sets, edges, offsets);
+    told::tell(answer, 0, number, place)
 }
 
 // How many edges were read from a network text, and the number of nodes beside it; 0 where refused.

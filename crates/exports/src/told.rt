@@ -1,108 +1,53 @@
 // An answer told as plain numbers: a refusal through number and place, 0 and 0 where there is none.
-ghost use Rattle.exports.specs.Told.{Told, ToldWith, length_verdict, length_code, bounded_verdict, bounded_code, count_verdict, count_of, list_verdict, ToldNetwork};
-ghost use Rattle.reading.specs.Answers.{entries};
+ghost use Rattle.exports.specs.Told.{Told, ToldWith, verdict_of, value_or, length_code, ToldNetwork};
 
-use between::{BoundedLength, Length};
-use model::Check;
-use network_reader::ReadNetwork;
-use perimeter::Counted;
-use reading::ReadList;
+use model::{NetworkSize, Refusal};
 
-pub fn tell(verdict: Check, number: &mut u32, place: &mut usize)
-    ensures { Told verdict number.new place.new }
+// The value of an answer, or another where it is refused.
+#[tactic(auto, unfolding(crate::specs::Told::verdict_of, crate::specs::Told::value_or, model::specs::Refusal::number_of, model::specs::Refusal::place_of))]
+pub fn tell<T: Drop>(
+    answer: Result<T, Refusal>,
+    otherwise: T,
+    number: &mut u32,
+    place: &mut usize,
+) -> T
+    ensures { ToldWith (verdict_of answer) (value_or otherwise answer) result number.new place.new }
 {
-    if let Check::Refused(n, p) = verdict {
-        *number = n;
-        *place = p;
-        return;
-    }
-    *number = 0;
-    *place = 0;
-}
-
-// One more than the metres always fits 64 bits.
-pub fn tell_length(answer: Length, number: &mut u32, place: &mut usize) -> u64
-    ensures { ToldWith (length_verdict answer) (length_code answer) result number.new place.new }
-{
-    *number = 0;
-    *place = 0;
     match answer {
-        Length::Metres(n) => n as u64 + 1,
-        Length::NoWalk => 0,
-        Length::Refused(n, p) => {
-            *number = n;
-            *place = p;
-            0
+        Ok(value) => {
+            *number = 0;
+            *place = 0;
+            value
+        }
+        Err(refusal) => {
+            *number = refusal.fault.number();
+            *place = refusal.place;
+            otherwise
         }
     }
 }
 
-pub fn tell_bounded(answer: BoundedLength, number: &mut u32, place: &mut usize) -> u64
-    ensures { ToldWith (bounded_verdict answer) (bounded_code answer) result number.new place.new }
+// One more than the metres, which always fits 64 bits, and 0 for none.
+pub fn tell_length(answer: Result<Option<u32>, Refusal>, number: &mut u32, place: &mut usize) -> u64
+    ensures { ToldWith (verdict_of answer) (length_code answer) result number.new place.new }
 {
-    *number = 0;
-    *place = 0;
-    match answer {
-        BoundedLength::Metres(n) => n as u64 + 1,
-        BoundedLength::Beyond => 0,
-        BoundedLength::Refused(n, p) => {
-            *number = n;
-            *place = p;
-            0
-        }
+    match tell(answer, None, number, place) {
+        Some(metres) => metres as u64 + 1,
+        None => 0,
     }
 }
 
-pub fn tell_count(answer: Counted, number: &mut u32, place: &mut usize) -> u32
-    ensures { ToldWith (count_verdict answer) (count_of answer) result number.new place.new }
-{
-    *number = 0;
-    *place = 0;
-    match answer {
-        Counted::Count(n) => n,
-        Counted::Refused(n, p) => {
-            *number = n;
-            *place = p;
-            0
-        }
-    }
-}
-
-pub fn tell_list(answer: ReadList, number: &mut u32, place: &mut usize) -> usize
-    ensures { ToldWith (list_verdict answer) (entries answer) result number.new place.new }
-{
-    *number = 0;
-    *place = 0;
-    match answer {
-        ReadList::Read(n) => n,
-        ReadList::Refused(n, p) => {
-            *number = n;
-            *place = p;
-            0
-        }
-    }
-}
-
+// The number of edges, with the number of nodes beside it.
 pub fn tell_network(
-    answer: ReadNetwork,
+    answer: Result<NetworkSize, Refusal>,
     nodes: &mut u32,
     number: &mut u32,
     place: &mut usize,
 ) -> usize
     ensures { ToldNetwork answer result nodes.new number.new place.new }
 {
-    *nodes = 0;
-    *number = 0;
-    *place = 0;
-    match answer {
-        ReadNetwork::Read(n, edges) => {
-            *nodes = n;
-            edges
-        }
-        ReadNetwork::Refused(n, p) => {
-            *number = n;
-            *place = p;
-            0
-        }
-    }
+    let none = NetworkSize { nodes: 0, edges: 0 };
+    let size = tell(answer, none, number, place);
+    *nodes = size.nodes;
+    size.edges
 }

@@ -9,6 +9,7 @@ use std::{fs, io};
 
 // The most calls that are made to read one file, or to write the output: over a million more than either has bytes, so that many may be
 // interrupted, and the program ends whatever the system answers to them.
+// The loops stand here, since the library's `write_all` and its functions that read make up to 2^64 calls.
 const CALLS: usize = 1100000;
 
 // Reads until the list is full or the file ends, and answers how many bytes were read: 0 if a call fails or the calls run out. Of a file

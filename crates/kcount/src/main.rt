@@ -7,7 +7,6 @@ ghost use Rattle.std.specs.Prelude.{◌≤◌, length};
 ghost use Rattle.report.specs.Report.{report_room};
 ghost use Rattle.kcount.specs.Held.{Held, HeldOfFronts, RoomToRead};
 
-use printing::Printed;
 use std::rt::Files;
 
 // One byte more than a text may have, so that a longer one is refused and not cut off.
@@ -18,11 +17,8 @@ fn fill(network: &[u8], reports: &[u8], thresholds: &[u8], out: &mut [u8]) -> us
     requires { report_room ≤ length out.old }
     ensures { Held network.now reports.now thresholds.now result out.new }
 {
-    match report::report(network, reports, thresholds, out) {
-        Printed::Bytes(count) => count,
-        // Never: there is room enough.
-        Printed::Refused(_, _) => 0,
-    }
+    // There is room enough, so that the report is never refused.
+    report::report(network, reports, thresholds, out).unwrap()
 }
 
 // Reads the three files, each into its list, and fills the last list with the report over what was read. That this is what the files

@@ -1,7 +1,6 @@
 -- Events as numbers, so that one order on numbers serves: the edge above, the offset below.
-use Rattle.std.specs.Prelude.{List, map, ◌≡◌, ℕ, ◌+◌, ◌*◌, ◌/◌, ◌%◌, ◌≤◌, length}
+use Rattle.std.specs.Prelude.{List, map, ◌≡◌, ℕ, ◌+◌, ◌*◌, ◌/◌, ◌%◌, length}
 use Rattle.model.specs.Events.{Event, event, events, sorted}
-use Rattle.model.specs.Limits.{max_events}
 
 -- one more than the greatest offset that a key holds: 2 to the power 32
 abbrev pub key_base : ℕ
@@ -19,11 +18,10 @@ offset_of key = key % key_base
 abbrev pub event_of : ℕ → Event
 event_of key = event (edge_of key) (offset_of key)
 
--- lists of edges, offsets and keys that belong together, and are short enough to sort
+-- lists of edges, offsets and keys that belong together
 pub record Fitting (es xs keys : List ℕ) : Type 0 where
   pub same_offsets : length xs ≡ length es
   pub same_keys : length keys ≡ length es
-  pub few : length es ≤ max_events
 
 -- the events sorted, in the same two lists
 pub record SortedEvents (es xs es' xs' : List ℕ) : Type 0 where

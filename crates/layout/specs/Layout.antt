@@ -1,6 +1,6 @@
 -- What laying out a set answers and leaves in the two lists.
+use Rattle.model.specs.Refusal.{Check}
 use Rattle.std.specs.Prelude.{List, map, ◌≡◌, ℕ}
-use Rattle.model.specs.declared.check.Check.{Check}
 use Rattle.model.specs.Events.{events, sorted}
 use Rattle.model.specs.Checks.{layout_check}
 use Rattle.model.specs.Answer.{written}

@@ -1,4 +1,4 @@
--- Layout and Stretch are the public promises; Sorting and Keys are cited by inner functions alone.
+-- Layout and Stretch are the public promises; Keys is cited by inner functions alone, and Sorting by a law alone.
 pub mod Layout
 pub mod Stretch
 pub mod Sorting

@@ -11,10 +11,8 @@ pub(crate) fn join(edges: &[u32], offsets: &[u32], keys: &mut [u64])
     requires { (length edges.now ≡ length keys.old) × (length offsets.now ≡ length keys.old) }
     ensures { keys.new ≡ map key_of (events edges.now offsets.now) }
 {
-    let mut i = 0;
-    while i < keys.len() {
-        keys[i] = (edges[i] as u64) * BASE + (offsets[i] as u64);
-        i += 1;
+    for (i, key) in keys.iter_mut().enumerate() {
+        *key = edges[i] as u64 * BASE + offsets[i] as u64;
     }
 }
 
@@ -23,10 +21,8 @@ pub(crate) fn part(keys: &[u64], edges: &mut [u32], offsets: &mut [u32])
     requires { (length edges.old ≡ length keys.now) × (length offsets.old ≡ length keys.now) }
     ensures { (edges.new ≡ map edge_of keys.now) × (offsets.new ≡ map offset_of keys.now) }
 {
-    let mut i = 0;
-    while i < keys.len() {
-        edges[i] = (keys[i] / BASE) as u32;
-        offsets[i] = (keys[i] % BASE) as u32;
-        i += 1;
+    for (i, key) in keys.iter().enumerate() {
+        edges[i] = (*key / BASE) as u32;
+        offsets[i] = (*key % BASE) as u32;
     }
 }

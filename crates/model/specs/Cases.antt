@@ -1,4 +1,5 @@
 -- Document 01's proved cases, P1 to P10, as one table of the definitions; and a second table with a loop.
+use Rattle.model.specs.Refusal.{accepted}
 use Rattle.std.specs.Prelude.{List, [], ◌∷◌, map, ◌≡◌, ℕ}
 use Rattle.model.specs.Network.{Network, network}
 use Rattle.model.specs.Distance.{metres}
@@ -8,7 +9,6 @@ use Rattle.model.specs.PairCount.{pair_count, event_distance}
 use Rattle.model.specs.Perimeter.{perimeter_count_of}
 use Rattle.model.specs.Envelope.{Envelope, between, observed, envelope}
 use Rattle.model.specs.Checks.{network_check}
-use Rattle.model.specs.declared.check.Check.TheVariants.{Accepted}
 
 -- 01's full run: edges 1: 1 to 2, 5 m; 2: 2 to 3, 4 m; 3: 3 to 1, 3 m; 4: 3 to 4, 6 m
 abbrev pub harbour : Network
@@ -58,7 +58,7 @@ abbrev pub basin_events : List Event
 basin_events = events (1 ∷ 1 ∷ 1 ∷ []) (0 ∷ 5 ∷ 10 ∷ [])
 
 pub record LoopCases : Type 0 where
-  pub accepted : network_check basin ≡ Accepted
+  pub accepted : network_check basin ≡ accepted
   pub one_place : location_of basin 0 0 ≡ location_of basin 0 10
   pub by_the_node : event_distance basin (event 1 2) (event 1 9) ≡ metres 3
   pub at_the_node : event_distance basin (event 1 0) (event 1 10) ≡ metres 0

@@ -13,6 +13,6 @@ pub mod Envelope
 pub mod Limits
 pub mod Refusal
 pub mod Checks
-pub mod Made
 pub mod Answer
+pub mod Made
 pub mod Cases

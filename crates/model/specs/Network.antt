@@ -3,6 +3,7 @@
 -- indices; an event, or an edge that is asked about, is named by its number. Several edges may join the same two nodes, and an edge may
 -- join a node to itself: a loop (02: a turning basin).
 use Rattle.std.specs.Prelude.{List, ℕ, ◌≤◌, ◌<◌, length, get_or}
+use Rattle.model.specs.declared.network.Network as lent
 
 pub record Network : Type 0 where
   pub nodes : ℕ
@@ -12,6 +13,10 @@ pub record Network : Type 0 where
 
 abbrev pub network : ℕ → List ℕ → List ℕ → List ℕ → Network
 network nodes firsts seconds lengths = record { nodes = nodes; firsts = firsts; seconds = seconds; lengths = lengths }
+
+-- what a network is of which the code is lent the parts
+abbrev pub network_of : lent.Network → Network
+network_of net = network net.nodes net.firsts.now net.seconds.now net.lengths.now
 
 -- the number of edges
 abbrev pub edges : Network → ℕ

@@ -2,8 +2,6 @@
 ghost use Rattle.std.specs.Prelude.{◌≡◌};
 ghost use Rattle.model.specs.Distance.{least, code, decode};
 
-use crate::number::lesser;
-
 // The code of the lesser of two distances.
 pub fn lesser_code(a: u64, b: u64) -> u64
     ensures { result ≡ code (least (decode a) (decode b)) }
@@ -14,12 +12,5 @@ pub fn lesser_code(a: u64, b: u64) -> u64
     if b == 0 {
         return a;
     }
-    lesser(a, b)
-}
-
-// The same of two entries of a list.
-pub fn lesser_entry(a: u32, b: u32) -> u32
-    ensures { result ≡ code (least (decode a) (decode b)) }
-{
-    lesser_code(a as u64, b as u64) as u32
+    a.min(b)
 }

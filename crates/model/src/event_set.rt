@@ -3,17 +3,11 @@ ghost use Rattle.std.specs.Prelude.{◌≡◌, leb};
 ghost use Rattle.model.specs.Limits.{max_set};
 ghost use Rattle.model.specs.Made.{event_set_of};
 
-use crate::check::Check;
+use crate::refusal::{Fault, Refusal};
 
 #[derive(Clone, Copy)]
 pub struct EventSet {
     pub len: usize,
-}
-
-#[derive(Clone, Copy)]
-pub enum MadeEventSet {
-    Made(EventSet),
-    Refused(u32, usize),
 }
 
 impl EventSet {
@@ -23,13 +17,17 @@ impl EventSet {
     pub const MAX_SET: u32 = 31;
 
     // 15: too many events, at the first surplus one.
-    pub fn new(len: usize) -> MadeEventSet
+    #[tactic(auto, unfolding(crate::specs::Answer::answer, crate::specs::Checks::event_count_check, crate::specs::Made::event_set_of, crate::specs::Refusal::unless))]
+    pub fn new(len: usize) -> Result<EventSet, Refusal>
         ensures { result ≡ event_set_of len }
     {
         if len <= EventSet::MAX_EVENTS {
-            return MadeEventSet::Made(EventSet { len });
+            return Ok(EventSet { len });
         }
-        MadeEventSet::Refused(Check::TOO_MANY_EVENTS, EventSet::MAX_EVENTS)
+        Err(Refusal {
+            fault: Fault::TooManyEvents,
+            place: EventSet::MAX_EVENTS,
+        })
     }
 
     // 12: a set number up to the limit.

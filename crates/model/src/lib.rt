@@ -1,18 +1,20 @@
-// The types that carry document 01's limits, and the refusal. What a reader must believe stands in specs/.
+// The types that carry the limits, and the refusal. What a reader must believe stands in specs/.
 #![tactic(auto)]
 
-mod check;
 mod code;
 mod event_set;
 mod list;
 mod network;
 mod number;
+mod refusal;
+mod reports;
 mod thresholds;
 
-pub use check::{Check, is_between};
-pub use code::{lesser_code, lesser_entry};
-pub use event_set::{EventSet, MadeEventSet};
-pub use list::{clear, equals_end, value_at};
-pub use network::{MadeNetwork, Network};
-pub use number::{apart, covered, greater, less, lesser};
-pub use thresholds::{MadeThresholds, Thresholds};
+pub use code::lesser_code;
+pub use event_set::EventSet;
+pub use list::{equals_end, value_at};
+pub use network::{Network, NetworkSize};
+pub use number::{covered, is_between};
+pub use refusal::{Fault, Refusal};
+pub use reports::Reports;
+pub use thresholds::Thresholds;

@@ -3,7 +3,7 @@ ghost use Rattle.std.specs.Prelude.{◌≡◌, ◌≤◌};
 ghost use Rattle.neighbor_sharing.specs.Joined.{joined_from};
 
 use crate::moving::Stands;
-use model::{covered, greater};
+use model::covered;
 
 // How many of so many events of the second edge are reached where the cursors stand.
 pub(crate) fn joined_of(places: u64, stands: Stands) -> u64
@@ -15,5 +15,5 @@ pub(crate) fn joined_of(places: u64, stands: Stands) -> u64
     let ss = stands.ss as u64;
     let low = stands.low as u64;
     let high = stands.high as u64;
-    covered(places, greater(ff, sf), greater(fs, ss), low, high)
+    covered(places, ff.max(sf), fs.max(ss), low, high)
 }

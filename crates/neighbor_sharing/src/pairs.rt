@@ -10,7 +10,7 @@ ghost use Rattle.neighbor_sharing.specs.Joined.{shared, shared_within};
 use crate::joining::joined_of;
 use crate::moving::{at_rest, move_to};
 use edge_pair::{EdgePair, change_from, shortest_route};
-use model::{EventSet, equals_end, value_at};
+use model::{EventSet, equals_end};
 
 // For each event of the first run, how many of the second are reached, by cursors that are moved from event to event: what these
 // join, whatever the lists hold. At events with the offset of the one before they would stay where they are.
@@ -21,6 +21,7 @@ fn count_pairs(threshold: u32, edges: EdgePair, xs: &[u32], ys: &[u32]) -> u64
     let places = ys.len() as u64;
     let mut stands = at_rest(ys);
     let mut total = 0;
+    // Not a `for`: the place goes on to the end of the events at one offset.
     let mut i = 0;
     while i < xs.len() {
         stands = move_to(threshold, edges, ys, xs[i], stands);
@@ -57,12 +58,9 @@ pub fn add_pairs(edges: EdgePair, xs: &[u32], ys: &[u32], thresholds: &[u32], to
     }
     let shortest = shortest_route(edges);
     let mut last = 0;
-    let mut k = 0;
-    while k < thresholds.len() {
-        let threshold = value_at(thresholds, k);
-        let found = count_within(threshold, shortest, edges, xs, ys);
+    for (k, threshold) in thresholds.iter().enumerate() {
+        let found = count_within(*threshold, shortest, edges, xs, ys);
         change_from(totals, k, last, found);
         last = found;
-        k += 1;
     }
 }

@@ -8,12 +8,13 @@ use borrow.Author.Tests.{eq-eqb, ne_eqb, eqb-true}
 use lib.Dec.{eqb}
 use lib.ListN.{length, take, set, get_or}
 use lib.Seq.{length-take-le}
+use Rattle.std.specs.Prelude.{Ok, Err}
+use Rattle.model.specs.declared.refusal.Fault.TheVariants.{BadLength, BadNode}
 use Rattle.model.proofs.Laws.Refusal.{both_true}
 use Rattle.model.specs.Limits.{max_edges, max_length}
-use Rattle.model.specs.Refusal.{is_between_of, bad_node, bad_length}
+use Rattle.model.specs.Refusal.{is_between_of}
 use Rattle.text.specs.NetworkText.{ArcRead, turns_last, arc, turned, both_ways, arcs_of}
 use Rattle.text.specs.Parallel.{beside, Level}
-use Rattle.reading.specs.declared.line.LineRead.TheVariants as line-answer
 use Rattle.text.proofs.Laws.Parallel.{beside-length, beside_at, beside-set}
 use Rattle.reading.proofs.Require.{holds, fails}
 use Rattle.network_reader.specs.Steps.{arcs_in, arc_after, ArcChecked}
@@ -21,18 +22,18 @@ use Rattle.network_reader.proofs.BothWays.{no-arc, both-length, edge-stored, sec
 
 -- The checks 7 and 9.
 module _ (nodes : ℕ) (b : ArcRead) where
-  pub nodes-refused : (is_between_of 1 nodes b.from && is_between_of 1 nodes b.to) ≡ false → ArcChecked nodes b (line-answer.Refused bad_node)
+  pub nodes-refused : (is_between_of 1 nodes b.from && is_between_of 1 nodes b.to) ≡ false → ArcChecked nodes b (Err BadNode)
   unfolding arc_after
-  nodes-refused e = record { before = λ on. fails bad_node _ e }
+  nodes-refused e = record { before = λ on. fails BadNode _ e }
 
   module _ (n : (is_between_of 1 nodes b.from && is_between_of 1 nodes b.to) ≡ true) where
-    pub length-refused : is_between_of 1 max_length b.weight ≡ false → ArcChecked nodes b (line-answer.Refused bad_length)
+    pub length-refused : is_between_of 1 max_length b.weight ≡ false → ArcChecked nodes b (Err BadLength)
     unfolding arc_after
-    length-refused e = record { before = λ on. holds bad_node n (fails bad_length _ e) }
+    length-refused e = record { before = λ on. holds BadNode n (fails BadLength _ e) }
 
-    pub arc-accepted : is_between_of 1 max_length b.weight ≡ true → ArcChecked nodes b line-answer.Taken
+    pub arc-accepted : is_between_of 1 max_length b.weight ≡ true → ArcChecked nodes b (Ok tt)
     unfolding arc_after
-    arc-accepted e = record { before = λ on. holds bad_node n (holds bad_length e refl) }
+    arc-accepted e = record { before = λ on. holds BadNode n (holds BadLength e refl) }
 
 -- half of a number of arcs
 pub half-even : (count : ℕ) → (count % 2 ≡ 1 → ⊥) → count ≡ 2 * (count / 2)

@@ -1,9 +1,9 @@
 -- What the inner functions keep of the set asked about: cited by no public function.
+use Rattle.model.specs.Refusal.{Check}
 use Rattle.std.specs.Prelude.{Bool, true, cond, List, ◌≡◌, ℕ, ◌+◌, ◌-◌, ◌≤◌, ◌<◌, leb, length, get_or, take, drop}
 use Rattle.model.specs.Events.{greatest_set_of}
 use Rattle.model.specs.Limits.{max_set}
 use Rattle.model.specs.Network.{Network}
-use Rattle.model.specs.declared.check.Check.{Check}
 use Rattle.prepare.specs.Counts.{CountsAnswered}
 
 -- what a method leaves in its list, whatever it answers beside it

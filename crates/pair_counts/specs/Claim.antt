@@ -1,5 +1,6 @@
 -- Demand 3 as one promise: three methods, every set and threshold, and the cursors of the set, threshold and two edges asked about.
-use Rattle.std.specs.Prelude.{cond, ◌&&◌, ◌||◌, List, map, ◌≡◌, ℕ, suc, ◌+◌, ◌*◌, ◌≤◌, ◌<◌, min, eqb, leb, ltb, length, get_or}
+use Rattle.model.specs.declared.refusal.Fault.TheVariants.{BadSet}
+use Rattle.std.specs.Prelude.{cond, ◌&&◌, ◌||◌, List, map, ◌≡◌, ℕ, suc, ◌+◌, ◌*◌, ◌≤◌, ◌<◌, min, eqb, leb, ltb, length, get_or, Ok, Err}
 use Rattle.model.specs.Answer.{written}
 use Rattle.model.specs.Checks.{same_length_of, room_check, lone_edge_check}
 use Rattle.model.specs.Counting.{count_if}
@@ -7,9 +8,7 @@ use Rattle.model.specs.Events.{events, having, set_count}
 use Rattle.model.specs.Limits.{max_set}
 use Rattle.model.specs.Network.{Network}
 use Rattle.model.specs.PairCount.{CountsJoined}
-use Rattle.model.specs.Refusal.{or_else, unless, bad_set}
-use Rattle.model.specs.declared.check.Check.{Check}
-use Rattle.model.specs.declared.check.Check.TheVariants.{Accepted, Refused}
+use Rattle.model.specs.Refusal.{fault_number, or_else, unless, Check, accepted}
 use Rattle.sweep.specs.Answers.{cursor_positions, cursor_moves}
 use Rattle.sweep.specs.OneWay.{MovesOneWay}
 use Rattle.prepare.specs.Counts.{counts_check, count_table}
@@ -17,9 +16,11 @@ use Rattle.prepare.specs.Prepared.{laid_out_set, greatest}
 
 -- of two checks the refusal with the lower number, then the lower place
 unfoldable pub lowest : Check → Check → Check
-lowest Accepted b = b
-lowest (Refused n p) Accepted = Refused n p
-lowest (Refused n p) (Refused m q) = cond (ltb n m || (eqb n m && leb p q)) (Refused n p) (Refused m q)
+lowest (Ok done) b = b
+lowest (Err r) (Ok done) = Err r
+lowest (Err r) (Err s) =
+    cond (ltb (fault_number r.fault) (fault_number s.fault) || (eqb (fault_number r.fault) (fault_number s.fault) && leb r.place s.place))
+    (Err r) (Err s)
 
 -- how many events of set s lie on edge e
 unfoldable pub on_edge_of : List ℕ → List ℕ → ℕ → ℕ → ℕ
@@ -33,7 +34,7 @@ cursor_room sets es s e ps ms =
 
 -- 12 and 13 for the set and the two edges asked about, each at place 0
 unfoldable pub asked_check : Network → ℕ → ℕ → ℕ → Check
-asked_check net s e f = or_else (unless (leb s max_set) bad_set 0) (or_else (lone_edge_check net e) (lone_edge_check net f))
+asked_check net s e f = or_else (unless (leb s max_set) BadSet 0) (or_else (lone_edge_check net e) (lone_edge_check net f))
 
 -- all of it: the lowest number decides, then the lowest place
 unfoldable pub claim_check : Network → List ℕ → List ℕ → List ℕ → List ℕ → ℕ → ℕ → ℕ → ℕ → List ℕ → List ℕ → Check
@@ -64,8 +65,8 @@ module _ (net : Network) (sets es xs ts : List ℕ) (s t e f : ℕ) where
     pub by_sharing_of : shared' ≡ written r (count_table net sets (events es xs) ts) shared
     pub positions_after : ps' ≡ written r (cursor_positions net (set_edges sets es xs s) (set_offsets sets es xs s) e f t (greatest ts)) ps
     pub moves_after : ms' ≡ written r (cursor_moves net (set_edges sets es xs s) (set_offsets sets es xs s) e f t (greatest ts)) ms
-    pub range_joined : r ≡ Accepted → AllJoined net sets es xs ts ranged'
-    pub augmentation_joined : r ≡ Accepted → AllJoined net sets es xs ts augmented'
-    pub sharing_joined : r ≡ Accepted → AllJoined net sets es xs ts shared'
-    pub few_moves : r ≡ Accepted → (c : ℕ) → c < 6 → get_or ms' c 0 ≤ suc (length (having f (set_edges sets es xs s) (set_offsets sets es xs s)))
-    pub one_way : r ≡ Accepted → MovesOneWay net (set_edges sets es xs s) (set_offsets sets es xs s) e f t (greatest ts)
+    pub range_joined : r ≡ accepted → AllJoined net sets es xs ts ranged'
+    pub augmentation_joined : r ≡ accepted → AllJoined net sets es xs ts augmented'
+    pub sharing_joined : r ≡ accepted → AllJoined net sets es xs ts shared'
+    pub few_moves : r ≡ accepted → (c : ℕ) → c < 6 → get_or ms' c 0 ≤ suc (length (having f (set_edges sets es xs s) (set_offsets sets es xs s)))
+    pub one_way : r ≡ accepted → MovesOneWay net (set_edges sets es xs s) (set_offsets sets es xs s) e f t (greatest ts)

@@ -6,7 +6,7 @@ use mathlib.Core.Path.{◌≡◌, refl, sym, ap, ◌∙◌}
 use Prim.Native.Nat.{ℕ, pred, ◌+◌, ◌-◌, ◌≤◌, ◌<◌}
 use native.Mathlib.Decide.{dec_le}
 use native.Mathlib.Omega.{arith, min_cases}
-use borrow.Author.Tests.{le-leb, lt-leb, lt-ltb, le-ltb, leb-true, ltb-true}
+use borrow.Author.Tests.{le-leb, lt-ltb, leb-true, ltb-true}
 use lib.Dec.{leb, ltb}
 use Rattle.model.proofs.Laws.Codes.{decode-code}
 use Rattle.model.specs.Counting.{one_if}
@@ -107,17 +107,14 @@ module _ (s : Sight) where
   met-if-at y c h k p q = q ∙ ap (λ d. exactly d s.radius) (ap decode p ∙ decode-code _) ∙ sym (inside-met y h k)
 
   -- an offset that is not inside is not met
-  pub too-low : (y : ℕ) → y < 1 → false ≡ met s y
+  pub not-inside : (y : ℕ) → (1 ≤ y → y < s.length → ⊥) → false ≡ met s y
   unfolding met
-  too-low y h = simp (lt-leb 1 y h)
-
-  pub too-high : (y : ℕ) → s.length ≤ y → false ≡ met s y
-  unfolding met
-  too-high y h = simp (le-ltb y s.length h) (go (leb 1 y))
+  not-inside y h = go (leb 1 y) refl (ltb y s.length) refl
     where
-      go : (b : Bool) → false ≡ (b && false) && exactly (lies s y) s.radius
-      go true = refl
-      go false = refl
+      go : (a : Bool) → leb 1 y ≡ a → (b : Bool) → ltb y s.length ≡ b → false ≡ (a && b) && exactly (lies s y) s.radius
+      go true p true q = absurd (h (leb-true 1 y p) (ltb-true y s.length q))
+      go true p false q = refl
+      go false p b q = refl
 
   -- the candidates count all that is met
   met-candidates : met_count s ≡ distinct (met s) sighted

@@ -1,5 +1,6 @@
 -- A loop that adds up: after k turns it has the sum of the first k terms, each of which is at most 4.
-use mathlib.Core.Bool.{Bool}
+use mir.Val.{bool_byte}
+use mathlib.Core.Bool.{Bool, true, false}
 use mathlib.Core.Path.{◌≡◌, refl, ap, ap₂, ◌∙◌}
 use Prim.Native.Nat.{ℕ, ◌+◌, ◌*◌, ◌≤◌, ◌<◌}
 use native.Mathlib.Numerals.{add-one}
@@ -28,6 +29,12 @@ module _ (f : ℕ → ℕ) (n : ℕ) where
   pub tally-ends : {k count : ℕ} → Tallied f n k count → n ≤ k → CountedTo (4 * n) (sum_below n f) count
   tally-ends {k} {count} t l = let e : k ≡ n = omega (arith, t.to) in
       record { is = rw e at t.is; few = omega (arith, t.few) }
+
+-- a test as a number
+pub as-number : (b : Bool) → bool_byte b ≡ one_if b
+unfolding one_if
+as-number true = refl
+as-number false = refl
 
 -- what is reached is the distance that the code stands for
 reached-is : {d : Distance} {r : ℕ} → Reached d r → decode r ≡ d

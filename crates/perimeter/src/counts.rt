@@ -4,8 +4,9 @@ ghost use Rattle.model.specs.Counting.{sum_below};
 ghost use Rattle.model.specs.Limits.{max_nodes};
 ghost use Rattle.perimeter.specs.Counts.{reached, nodes_at, edge_at, Near, Reached, Prepared, CountedTo};
 
-use crate::codes::{by_ends, is_at, one};
+use crate::codes::{by_ends, is_at};
 use crate::edges::{Sight, count_met};
+use model::Network;
 
 // The centre: the index of its edge, the metres from it to the edge's two ends, and the radius.
 #[derive(Clone, Copy)]
@@ -31,36 +32,25 @@ fn count_nodes(nodes: u32, row1: &[u32], row2: &[u32], c: Centre) -> u32
     requires near { Near c }
     ensures { CountedTo (4 * nodes) (nodes_at c row1.now row2.now nodes) result }
 {
-    let n = nodes as usize;
-    let mut count: u32 = 0;
-    let mut k = 0;
-    while k < n {
-        count += one(is_at(reach(row1, row2, k, c), c.radius));
-        k += 1;
+    let mut count = 0;
+    for k in 0..nodes as usize {
+        count += u32::from(is_at(reach(row1, row2, k, c), c.radius));
     }
     count
 }
 
 // How many locations strictly inside the edge at an index do.
-fn count_edge(
-    firsts: &[u32],
-    seconds: &[u32],
-    lengths: &[u32],
-    row1: &[u32],
-    row2: &[u32],
-    c: Centre,
-    j: usize,
-) -> u32
-    requires prepared { Prepared c firsts.now seconds.now lengths.now row1.now row2.now }
-    requires j_in_bounds { j < length lengths.now }
-    ensures { CountedTo 4 (edge_at c firsts.now seconds.now lengths.now row1.now row2.now j) result }
+fn count_edge(network: Network, row1: &[u32], row2: &[u32], c: Centre, j: usize) -> u32
+    requires prepared { Prepared c network.firsts.now network.seconds.now network.lengths.now row1.now row2.now }
+    requires j_in_bounds { j < length network.lengths.now }
+    ensures { CountedTo 4 (edge_at c network.entry.firsts.now network.entry.seconds.now network.entry.lengths.now row1.now row2.now j) result }
 {
-    let end1 = reach(row1, row2, firsts[j] as usize - 1, c);
-    let end2 = reach(row1, row2, seconds[j] as usize - 1, c);
+    let end1 = reach(row1, row2, network.firsts[j] as usize - 1, c);
+    let end2 = reach(row1, row2, network.seconds[j] as usize - 1, c);
     count_met(Sight {
         end1,
         end2,
-        length: lengths[j] as u64,
+        length: network.lengths[j] as u64,
         own: c.edge == j,
         offset: c.offset,
         radius: c.radius,
@@ -68,39 +58,22 @@ fn count_edge(
 }
 
 // How many locations strictly inside any edge do.
-fn count_insides(
-    firsts: &[u32],
-    seconds: &[u32],
-    lengths: &[u32],
-    row1: &[u32],
-    row2: &[u32],
-    c: Centre,
-) -> u32
-    requires { Prepared c firsts.now seconds.now lengths.now row1.now row2.now }
-    ensures { CountedTo (4 * length lengths.now) (sum_below (length lengths.now) (edge_at c firsts.now seconds.now lengths.now row1.now row2.now)) result }
+fn count_insides(network: Network, row1: &[u32], row2: &[u32], c: Centre) -> u32
+    requires { Prepared c network.firsts.now network.seconds.now network.lengths.now row1.now row2.now }
+    ensures { CountedTo (4 * length network.entry.lengths.now) (sum_below (length network.entry.lengths.now) (edge_at c network.entry.firsts.now network.entry.seconds.now network.entry.lengths.now row1.now row2.now)) result }
 {
-    let mut count: u32 = 0;
-    let mut j = 0;
-    while j < lengths.len() {
-        count += count_edge(firsts, seconds, lengths, row1, row2, c, j);
-        j += 1;
+    let mut count = 0;
+    for j in 0..network.lengths.len() {
+        count += count_edge(network, row1, row2, c, j);
     }
     count
 }
 
 // How many locations lie at exactly the radius.
-pub(crate) fn count_all(
-    nodes: u32,
-    firsts: &[u32],
-    seconds: &[u32],
-    lengths: &[u32],
-    row1: &[u32],
-    row2: &[u32],
-    c: Centre,
-) -> u32
-    requires nodes_le_max_nodes { (nodes ≤ max_nodes) × (nodes ≤ length row1.now) × (nodes ≤ length row2.now) }
-    requires prepared { Prepared c firsts.now seconds.now lengths.now row1.now row2.now }
-    ensures { result ≡ nodes_at c row1.now row2.now nodes + sum_below (length lengths.now) (edge_at c firsts.now seconds.now lengths.now row1.now row2.now) }
+pub(crate) fn count_all(network: Network, row1: &[u32], row2: &[u32], c: Centre) -> u32
+    requires nodes_le_max_nodes { (network.nodes ≤ max_nodes) × (network.nodes ≤ length row1.now) × (network.nodes ≤ length row2.now) }
+    requires prepared { Prepared c network.firsts.now network.seconds.now network.lengths.now row1.now row2.now }
+    ensures { result ≡ nodes_at c row1.now row2.now network.entry.nodes + sum_below (length network.entry.lengths.now) (edge_at c network.entry.firsts.now network.entry.seconds.now network.entry.lengths.now row1.now row2.now) }
 {
-    count_nodes(nodes, row1, row2, c) + count_insides(firsts, seconds, lengths, row1, row2, c)
+    count_nodes(network.nodes, row1, row2, c) + count_insides(network, row1, row2, c)
 }

@@ -1,13 +1,12 @@
 -- The counts of all sets at all thresholds, as every method hands them out: set by set, and under each set threshold by threshold.
+use Rattle.model.specs.declared.refusal.Fault.TheVariants.{ListsDiffer}
 use Rattle.std.specs.Prelude.{List, [], ◌++◌, map, ◌≡◌, ℕ, zero, suc, ◌*◌, leb, length}
 use Rattle.model.specs.Answer.{written}
 use Rattle.model.specs.Checks.{network_lists, set_lists, network_values, set_numbers_check, event_values, equal_sets_check, thresholds_check}
 use Rattle.model.specs.Envelope.{count_of_set}
 use Rattle.model.specs.Events.{Event, events, set_count}
 use Rattle.model.specs.Network.{Network}
-use Rattle.model.specs.Refusal.{or_else, unless, lists_differ}
-use Rattle.model.specs.declared.check.Check.{Check}
-use Rattle.model.specs.declared.check.Check.TheVariants.{Accepted}
+use Rattle.model.specs.Refusal.{or_else, unless, Check, accepted}
 
 -- the counts of one set at each threshold
 unfoldable pub count_row_of : Network → List ℕ → List Event → List ℕ → ℕ → List ℕ
@@ -26,8 +25,8 @@ unfoldable pub counts_check : Network → List ℕ → List ℕ → List ℕ →
 counts_check net sets es xs ts room =
     or_else (network_lists net)
     (or_else (set_lists sets es xs)
-    (or_else (unless (leb (set_count sets * length ts) room) lists_differ 0)
-    (or_else (network_values Accepted net)
+    (or_else (unless (leb (set_count sets * length ts) room) ListsDiffer 0)
+    (or_else (network_values accepted net)
     (or_else (set_numbers_check sets) (or_else (event_values net es xs) (or_else (equal_sets_check sets) (thresholds_check ts)))))))
 
 -- the promise of a counting method: its verdict, and its answer list before and after

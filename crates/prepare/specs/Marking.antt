@@ -1,10 +1,10 @@
 -- What the functions that mark the wanted nodes and fill the table keep: cited by inner functions alone.
+use Rattle.model.specs.Refusal.{accepted}
 use Rattle.std.specs.Prelude.{List, ◌≡◌, ℕ, pred, ◌*◌, ◌≤◌, ◌<◌, length, get_or}
 use Rattle.model.specs.Checks.{network_check}
 use Rattle.model.specs.Distance.{code}
 use Rattle.model.specs.Network.{Network, IsNode, edges}
 use Rattle.model.specs.NodeDistance.{bounded_distance}
-use Rattle.model.specs.declared.check.Check.TheVariants.{Accepted}
 use Rattle.prepare.specs.Prepared.{entry}
 
 -- one end of the edge of each event, from a list of the ends of edges
@@ -30,7 +30,7 @@ pub record Marked (ends es : List ℕ) (n : ℕ) (wanted wanted' : List ℕ) : T
 
 -- an accepted network, events on its edges, and room for every row
 pub record Endable (net : Network) (es table : List ℕ) : Type 0 where
-  pub accepted : network_check net ≡ Accepted
+  pub accepted : network_check net ≡ accepted
   pub edge_from : (k : ℕ) → k < length es → 1 ≤ get_or es k 0
   pub edge_to : (k : ℕ) → k < length es → get_or es k 0 ≤ edges net
   pub room : net.nodes * net.nodes ≤ length table

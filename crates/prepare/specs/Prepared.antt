@@ -1,13 +1,13 @@
 -- What the methods start from: the sets one after the other, each laid out, cut into runs of events on one edge,
 -- and the leg-end distances bounded by the greatest threshold.
-use Rattle.std.specs.Prelude.{List, [], ◌++◌, map, ◌≡◌, ℕ, zero, suc, pred, ◌+◌, ◌*◌, ◌≤◌, ◌<◌, length, get_or, take, drop}
+use Rattle.model.specs.Refusal.{Check, accepted}
+use Rattle.model.specs.declared.refusal.Refusal.{Refusal}
+use Rattle.std.specs.Prelude.{List, [], ◌++◌, map, ◌≡◌, ℕ, zero, suc, pred, ◌+◌, ◌*◌, ◌≤◌, ◌<◌, length, get_or, take, drop, Err}
 use Rattle.model.specs.Counting.{sum_below}
 use Rattle.model.specs.Distance.{code}
 use Rattle.model.specs.Events.{Event, events, having, sorted, set_size, set_count}
 use Rattle.model.specs.Network.{Network, IsNode, first, second}
 use Rattle.model.specs.NodeDistance.{bounded_distance}
-use Rattle.model.specs.declared.check.Check.{Check}
-use Rattle.model.specs.declared.check.Check.TheVariants.{Accepted, Refused}
 use Rattle.prepare.specs.Counts.{counts_check}
 
 -- the events of set s, laid out
@@ -59,11 +59,11 @@ pub record Prepared (net : Network) (sets es xs ts edges offsets bounds set_runs
 -- LeftOnRefusal and SurplusKept
 pub record Ready (net : Network) (sets es xs ts : List ℕ) (room : ℕ) (r : Check) (edges offsets bounds set_runs_of table : List ℕ) : Type 0 where
   pub verdict : r ≡ counts_check net sets es xs ts room
-  pub prepared : counts_check net sets es xs ts room ≡ Accepted → Prepared net sets es xs ts edges offsets bounds set_runs_of table
+  pub prepared : counts_check net sets es xs ts room ≡ accepted → Prepared net sets es xs ts edges offsets bounds set_runs_of table
 
 -- on refusal the five lists are left as they were
 pub record LeftOnRefusal (r : Check) (edges offsets bounds set_runs_of table edges' offsets' bounds' set_runs' table' : List ℕ) : Type 0 where
-  pub left : (number place : ℕ) → r ≡ Refused number place → (edges' ≡ edges) × (offsets' ≡ offsets) × (bounds' ≡ bounds) × (set_runs' ≡ set_runs_of) × (table' ≡ table)
+  pub left : (x : Refusal) → r ≡ Err x → (edges' ≡ edges) × (offsets' ≡ offsets) × (bounds' ≡ bounds) × (set_runs' ≡ set_runs_of) × (table' ≡ table)
 
 -- a list's entries from n on are left as they were
 pub record KeptFrom (n : ℕ) (old new : List ℕ) : Type 0 where
@@ -88,5 +88,5 @@ pub record TableKept (net : Network) (es table table' : List ℕ) : Type 0 where
 
 -- on acceptance the five lists keep their surplus entries: what Prepared does not speak of is left as it was
 pub record SurplusKept (net : Network) (sets es : List ℕ) (r : Check) (edges offsets bounds set_runs_of table edges' offsets' bounds' set_runs' table' : List ℕ) : Type 0 where
-  pub laid : r ≡ Accepted → LaidKept sets es edges offsets bounds set_runs_of edges' offsets' bounds' set_runs'
-  pub table_kept : r ≡ Accepted → TableKept net es table table'
+  pub laid : r ≡ accepted → LaidKept sets es edges offsets bounds set_runs_of edges' offsets' bounds' set_runs'
+  pub table_kept : r ≡ accepted → TableKept net es table table'

@@ -1,10 +1,10 @@
 // The checks in front of a counting method, in document 01's order.
 ghost use Rattle.std.specs.Prelude.{◌≡◌, ◌*◌, leb, length};
 ghost use Rattle.model.specs.Events.{set_count};
-ghost use Rattle.model.specs.Network.{network};
+ghost use Rattle.model.specs.Network.{network_of};
 ghost use Rattle.prepare.specs.Counts.{counts_check};
 
-use model::Check;
+use model::{Fault, Network, Refusal, Reports};
 
 // Room for a count of every set at every threshold.
 fn has_room(sets: &[u32], thresholds: &[u32], room: usize) -> bool
@@ -16,24 +16,19 @@ fn has_room(sets: &[u32], thresholds: &[u32], room: usize) -> bool
 
 // 2, 6, 7, 9, 12 to 16, 18 and 19. Every refusal 2 is at place 0, so that the room may be looked at first.
 pub(crate) fn check_counts(
-    nodes: u32,
-    firsts: &[u32],
-    seconds: &[u32],
-    lengths: &[u32],
-    sets: &[u32],
-    edges: &[u32],
-    offsets: &[u32],
+    network: Network,
+    reports: Reports,
     thresholds: &[u32],
     room: usize,
-) -> Check
-    ensures { result ≡ counts_check (network nodes firsts.now seconds.now lengths.now) sets.now edges.now offsets.now thresholds.now room }
+) -> Result<(), Refusal>
+    ensures { result ≡ counts_check (network_of network.entry) reports.entry.sets.now reports.entry.edges.now reports.entry.offsets.now thresholds.now room }
 {
-    if !has_room(sets, thresholds, room) {
-        return Check::Refused(Check::LISTS_DIFFER, 0);
+    if !has_room(reports.sets, thresholds, room) {
+        return Err(Refusal {
+            fault: Fault::ListsDiffer,
+            place: 0,
+        });
     }
-    let events = validate::check_sets(nodes, firsts, seconds, lengths, sets, edges, offsets);
-    if let Check::Refused(_, _) = events {
-        return events;
-    }
+    validate::check_sets(network, reports)?;
     validate::check_thresholds(thresholds)
 }

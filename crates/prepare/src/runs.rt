@@ -4,14 +4,12 @@ ghost use Rattle.prepare.specs.Cutting.{ends_run_of, Cuttable, CutTo, Startable,
 ghost use Rattle.prepare.specs.Prepared.{KeptFrom};
 
 // A run ends at a place: the events end there, or the edge changes.
+#[tactic(auto, unfolding(crate::specs::Cutting::ends_run_of))]
 fn ends_run(edges: &[u32], to: usize, k: usize) -> bool
     requires { (1 ≤ k) × (k ≤ to) × (to ≤ length edges.now) }
     ensures { result ≡ ends_run_of edges.now to k }
 {
-    if k == to {
-        return true;
-    }
-    edges[k] != edges[k - 1]
+    k == to || edges[k] != edges[k - 1]
 }
 
 // Cuts the events from the last bound to another place into runs, and gives the number of runs then.
@@ -21,9 +19,7 @@ fn cut(edges: &[u32], from: usize, to: usize, bounds: &mut [u32], runs: usize) -
     ensures kept_from { KeptFrom (suc result) bounds.old bounds.new }
 {
     let mut r = runs;
-    let mut k = from;
-    while k < to {
-        k += 1;
+    for k in from + 1..to + 1 {
         if ends_run(edges, to, k) {
             r += 1;
             bounds[r] = k as u32;
@@ -47,8 +43,7 @@ pub(crate) fn cut_sets(
     bounds[0] = 0;
     set_runs[0] = 0;
     let mut runs = 0;
-    let mut s = 0;
-    while s < count {
+    for s in 0..count {
         runs = cut(
             edges,
             starts[s] as usize,
@@ -56,7 +51,6 @@ pub(crate) fn cut_sets(
             bounds,
             runs,
         );
-        s += 1;
-        set_runs[s] = runs as u32;
+        set_runs[s + 1] = runs as u32;
     }
 }

@@ -1,20 +1,12 @@
 -- What the printing functions answer and leave in the list of bytes.
-use Rattle.std.specs.Prelude.{Bool, true, false, List, [], ◌++◌, ◌≡◌, ℕ, zero, suc, length, get_or}
-use Rattle.model.specs.Answer.{written}
+use Rattle.std.specs.Prelude.{Bool, true, false, List, [], ◌++◌, ◌≡◌, ℕ, zero, suc, length, get_or, Result}
+use Rattle.model.specs.Answer.{answer, written}
 use Rattle.model.specs.Checks.{same_length_of, room_check, thresholds_check}
 use Rattle.model.specs.Envelope.{Envelope, no_value, between}
-use Rattle.model.specs.Refusal.{or_else}
-use Rattle.model.specs.declared.check.Check.{Check}
-use Rattle.model.specs.declared.check.Check.TheVariants.{Accepted, Refused}
+use Rattle.model.specs.Refusal.{or_else, Check}
+use Rattle.model.specs.declared.refusal.Refusal.{Refusal}
 use Rattle.text.specs.Lines.{line_end_of}
 use Rattle.printing.specs.Bytes.{header, row, refusal_line}
-use Rattle.printing.specs.declared.answers.Printed.{Printed}
-use Rattle.printing.specs.declared.answers.Printed.TheVariants as printed
-
--- how many bytes were printed, or a refusal
-unfoldable pub printed_answer : Check → ℕ → Printed
-printed_answer Accepted n = printed.Bytes n
-printed_answer (Refused number place) n = printed.Refused number place
 
 -- the envelope at one threshold, from two lists beside the counts
 unfoldable pub envelope_at : Bool → List ℕ → List ℕ → ℕ → Envelope
@@ -41,10 +33,10 @@ table_bytes_check comparisons ts observed lower upper out =
     or_else (columns_check comparisons ts observed lower upper)
     (or_else (room_check (length (table_bytes comparisons ts observed lower upper)) out) (thresholds_check ts))
 
-pub record TablePrinted (comparisons : Bool) (ts observed lower upper out : List ℕ) (r : Printed) (out' : List ℕ) : Type 0 where
-  pub answer : r ≡ printed_answer (table_bytes_check comparisons ts observed lower upper out) (length (table_bytes comparisons ts observed lower upper))
+pub record TablePrinted (comparisons : Bool) (ts observed lower upper out : List ℕ) (r : Result ℕ Refusal) (out' : List ℕ) : Type 0 where
+  pub answer : r ≡ answer (table_bytes_check comparisons ts observed lower upper out) (length (table_bytes comparisons ts observed lower upper))
   pub after : out' ≡ written (table_bytes_check comparisons ts observed lower upper out) (table_bytes comparisons ts observed lower upper) out
 
-pub record RefusalPrinted (file : List ℕ) (number place : ℕ) (out : List ℕ) (r : Printed) (out' : List ℕ) : Type 0 where
-  pub answer : r ≡ printed_answer (room_check (length (refusal_line file number place)) out) (length (refusal_line file number place))
+pub record RefusalPrinted (file : List ℕ) (number place : ℕ) (out : List ℕ) (r : Result ℕ Refusal) (out' : List ℕ) : Type 0 where
+  pub answer : r ≡ answer (room_check (length (refusal_line file number place)) out) (length (refusal_line file number place))
   pub after : out' ≡ written (room_check (length (refusal_line file number place)) out) (refusal_line file number place) out

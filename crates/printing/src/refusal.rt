@@ -4,9 +4,8 @@ ghost use Rattle.printing.specs.Answers.{RefusalPrinted};
 ghost use Rattle.printing.specs.Bytes.{refusal_line};
 ghost use Rattle.printing.specs.Writing.{Put, Room};
 
-use crate::answers::Printed;
 use crate::writing::{digit_count, put, put_field};
-use model::Check;
+use model::{Fault, Refusal};
 
 // The line is no longer than the room.
 fn refusal_fits(file: &[u8], number: u32, place: usize, room: usize) -> bool
@@ -32,11 +31,19 @@ fn put_refusal(file: &[u8], number: u32, place: usize, out: &mut [u8]) -> usize
 }
 
 // Prints `refused,FILE,NUMBER,PLACE`. Refuses a list that is too short (2).
-pub fn print_refusal(file: &[u8], number: u32, place: usize, out: &mut [u8]) -> Printed
+pub fn print_refusal(
+    file: &[u8],
+    number: u32,
+    place: usize,
+    out: &mut [u8],
+) -> Result<usize, Refusal>
     ensures { RefusalPrinted file.now number place out.old result out.new }
 {
     if !refusal_fits(file, number, place, out.len()) {
-        return Printed::Refused(Check::LISTS_DIFFER, 0);
+        return Err(Refusal {
+            fault: Fault::ListsDiffer,
+            place: 0,
+        });
     }
-    Printed::Bytes(put_refusal(file, number, place, out))
+    Ok(put_refusal(file, number, place, out))
 }

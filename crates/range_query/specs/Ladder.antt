@@ -3,6 +3,7 @@
 use Rattle.std.specs.Prelude.{cond, List, ◌≡◌, ℕ, suc, ◌+◌, ◌-◌, ◌/◌, ◌%◌, ◌^◌, ◌≤◌, ◌<◌, min, eqb, ltb, length, get_or}
 use Rattle.model.specs.Limits.{max_thresholds}
 use Rattle.range_query.specs.declared.lookup.Cells.{Cells}
+use Rattle.range_query.specs.declared.lookup.Cells.TheVariants.{EachMetre, Wide}
 
 -- the places of the ladder: the step of the greatest threshold, behind the steps the widest gap, the shift and what the cells are, and
 -- behind them the cells
@@ -51,8 +52,7 @@ cell_of shift d = min (d / 2 ^ shift) last_cell
 
 -- what is read of a ladder before anything is looked up in it: cited by no public function
 unfoldable pub cells_of : List ℕ → Cells
-cells_of ladder =
-    record { exact = eqb (get_or ladder kind_at 0) exact; shift = shift_of ladder }
+cells_of ladder = cond (eqb (get_or ladder kind_at 0) exact) EachMetre (Wide (shift_of ladder))
 
 -- the steps before place pos are passed, and with them half more if the last of these does not admit d
 unfoldable pub narrowed : List ℕ → ℕ → ℕ → ℕ → ℕ

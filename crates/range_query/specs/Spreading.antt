@@ -1,5 +1,5 @@
 -- What the inner functions that make a ladder promise: cited by no public function.
-use Rattle.std.specs.Prelude.{Bool, false, List, ◌≡◌, ℕ, ◌+◌, ◌-◌, ◌≤◌, ◌<◌, min, length, get_or}
+use Rattle.std.specs.Prelude.{List, Option, IfSome, ◌≡◌, ℕ, ◌+◌, ◌-◌, ◌≤◌, ◌<◌, min, length, get_or}
 use Rattle.model.specs.Limits.{max_thresholds}
 use Rattle.range_query.specs.Ladder.{last_step, kind_at, first_cell, last_cell, ladder_length, exact, Bracket, Level, Celled, Placed}
 
@@ -16,14 +16,14 @@ pub record Skipped (ladder : List ℕ) (metres c end r : ℕ) : Type 0 where
   pub passed : (j : ℕ) → c ≤ j → j < r → get_or ladder j 0 < metres
 
 -- every step behind number c, up to number last, admits what lies before an end, or, where there is no end, anything
-pub record Alone (ladder : List ℕ) (last c : ℕ) (endless : Bool) (end : ℕ) : Type 0 where
-  pub ahead : (d : ℕ) → (endless ≡ false → d < end) → (j : ℕ) → c < j → j ≤ last → d ≤ get_or ladder j 0
+pub record Alone (ladder : List ℕ) (last c : ℕ) (end : Option ℕ) : Type 0 where
+  pub ahead : (d : ℕ) → IfSome end (λ e. d < e) → (j : ℕ) → c < j → j ≤ last → d ≤ get_or ladder j 0
 
 -- a cell names the one step that need be looked at for what lies in it, or none
-pub record Names (ladder : List ℕ) (last c : ℕ) (endless : Bool) (end r : ℕ) : Type 0 where
+pub record Names (ladder : List ℕ) (last c : ℕ) (end : Option ℕ) (r : ℕ) : Type 0 where
   pub to_steps : r ≤ max_thresholds
   pub is : r < max_thresholds → r ≡ c
-  pub lone : r < max_thresholds → Level ladder → Alone ladder last c endless end
+  pub lone : r < max_thresholds → Level ladder → Alone ladder last c end
 
 -- the steps and the shift are kept
 pub record StepsKept (old new : List ℕ) : Type 0 where

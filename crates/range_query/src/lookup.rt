@@ -1,9 +1,9 @@
 // The first step of a ladder that admits so many metres, looked up by its cell or by halving, with no branch on what is found.
 ghost use Rattle.std.specs.Prelude.{cond, List, ◌≡◌, ℕ, ◌+◌, ◌^◌, ◌≤◌, ◌<◌, leb, ltb, length, get_or};
 ghost use Rattle.model.specs.Limits.{max_thresholds};
-ghost use Rattle.range_query.specs.Ladder.{shift_end, ladder_length, cell_of, cells_of, narrowed, by_halves_of, by_steps_of, place_in, found_in, bucket_in, LadderOf};
+ghost use Rattle.range_query.specs.Ladder.{shift_end, ladder_length, shift_of, cell_of, cells_of, narrowed, by_halves_of, by_steps_of, place_in, found_in, bucket_in, LadderOf};
 
-use model::{Thresholds, lesser};
+use model::Thresholds;
 
 // The thresholds are spread over as many steps as there may be thresholds.
 pub const STEPS: usize = Thresholds::MAX_THRESHOLDS;
@@ -38,11 +38,13 @@ pub const LAST_CELL: usize = CELLS - 1;
 // A cell is of 2^31 metres at most.
 pub const SHIFT_END: u32 = 32;
 
-// What is read of a ladder once: whether there is a cell for each metre, and the shift of the cells.
+// What the cells of a ladder are, which is read of it once.
 #[derive(Clone, Copy)]
-pub struct Cells {
-    pub exact: bool,
-    pub shift: u32,
+pub enum Cells {
+    // There is one for each metre.
+    EachMetre,
+    // There is one for each 2^shift metres.
+    Wide(u32),
 }
 
 // The metres of a cell.
@@ -54,21 +56,32 @@ pub(crate) fn width_of(shift: u32) -> u64
 }
 
 // The cell of 2^shift metres that so many metres lie in: the last one has no end.
+#[tactic(auto, unfolding(crate::specs::Ladder::cell_of))]
 pub(crate) fn cell_of(metres: u64, shift: u32) -> usize
     requires { shift < shift_end }
     ensures { result ≡ cell_of shift metres }
 {
-    lesser(metres >> shift, LAST_CELL as u64) as usize
+    (metres >> shift).min(LAST_CELL as u64) as usize
 }
 
-// What is read of a ladder.
+// The shift of the cells of a ladder.
+pub(crate) fn read_shift(ladder: &[u32]) -> u32
+    requires { length ladder.now ≡ ladder_length }
+    ensures { result ≡ shift_of ladder.now }
+{
+    ladder[SHIFT_AT] % SHIFT_END
+}
+
+// What the cells of a ladder are.
+#[tactic(auto, unfolding(crate::specs::Ladder::cells_of))]
 pub(crate) fn read_cells(ladder: &[u32]) -> Cells
     requires { length ladder.now ≡ ladder_length }
     ensures { result ≡ cells_of ladder.now }
 {
-    Cells {
-        exact: ladder[KIND_AT] == EXACT,
-        shift: ladder[SHIFT_AT] % SHIFT_END,
+    if ladder[KIND_AT] == EXACT {
+        Cells::EachMetre
+    } else {
+        Cells::Wide(read_shift(ladder))
     }
 }
 
@@ -80,6 +93,7 @@ fn passed(step: u32, d: u64, half: usize) -> usize
 }
 
 // Halves the steps among which the first that admits d is looked for.
+#[tactic(auto, unfolding(crate::specs::Ladder::narrowed))]
 fn narrow(ladder: &[u32], d: u64, half: usize, pos: usize) -> usize
     requires { (length ladder.now ≡ ladder_length) × (1 ≤ half) × (pos + half ≤ max_thresholds) }
     ensures { (result ≡ narrowed ladder.now d half pos) × (result ≤ pos + half) }
@@ -87,7 +101,8 @@ fn narrow(ladder: &[u32], d: u64, half: usize, pos: usize) -> usize
     pos + passed(ladder[pos + half - 1], d, half)
 }
 
-// The number of steps that do not admit d.
+// The number of steps that do not admit d. The halvings stand in a row, since in a loop the compiler makes a branch of each.
+#[tactic(auto, unfolding(crate::specs::Ladder::by_halves_of))]
 fn by_halves(ladder: &[u32], d: u64) -> usize
     requires { length ladder.now ≡ ladder_length }
     ensures { result ≡ by_halves_of ladder.now d }
@@ -103,39 +118,44 @@ fn by_halves(ladder: &[u32], d: u64) -> usize
 
 // The place of the first threshold that admits d, or one behind all thresholds: by the step that the cell of d names, or by halving where
 // it names none.
-pub(crate) fn by_steps(ladder: &[u32], cells: Cells, d: u64) -> usize
-    requires { (length ladder.now ≡ ladder_length) × (cells ≡ cells_of ladder.now) }
+#[tactic(auto, unfolding(crate::specs::Ladder::cell_of, crate::specs::Ladder::named_by, crate::specs::Ladder::by_steps_of))]
+pub(crate) fn by_steps(ladder: &[u32], shift: u32, d: u64) -> usize
+    requires { (length ladder.now ≡ ladder_length) × (shift ≡ shift_of ladder.now) }
     ensures { result ≡ by_steps_of ladder.now d }
 {
-    let step = ladder[FIRST_CELL + cell_of(d, cells.shift)] as usize;
+    let step = ladder[FIRST_CELL + cell_of(d, shift)] as usize;
     if step < STEPS {
-        return narrow(ladder, d, 1, step);
+        narrow(ladder, d, 1, step)
+    } else {
+        by_halves(ladder, d)
     }
-    by_halves(ladder, d)
 }
 
 // The same where there is a cell for each metre.
+#[tactic(auto, unfolding(crate::specs::Ladder::place_in))]
 pub(crate) fn place_in(ladder: &[u32], d: u64) -> usize
     requires { length ladder.now ≡ ladder_length }
     ensures { result ≡ place_in ladder.now d }
 {
-    let cell = lesser(d, LAST_CELL as u64) as usize;
+    let cell = d.min(LAST_CELL as u64) as usize;
     ladder[FIRST_CELL + cell] as usize
 }
 
 // The same by what was read of the ladder.
+#[tactic(auto, unfolding(crate::specs::Ladder::cells_of, crate::specs::Ladder::found_in))]
 pub(crate) fn find(ladder: &[u32], cells: Cells, d: u64) -> usize
     requires { (length ladder.now ≡ ladder_length) × (cells ≡ cells_of ladder.now) }
     ensures { result ≡ found_in ladder.now d }
 {
-    if cells.exact {
-        return place_in(ladder, d);
+    match cells {
+        Cells::EachMetre => place_in(ladder, d),
+        Cells::Wide(shift) => by_steps(ladder, shift, d),
     }
-    by_steps(ladder, cells, d)
 }
 
 // The place of the first threshold that admits so many metres, or one behind all thresholds; the number of all steps if the list is not
 // as long as a ladder.
+#[tactic(auto, unfolding(crate::specs::Ladder::bucket_in))]
 pub fn first_admitting(ladder: &[u32], metres: u64) -> usize
     ensures { (length ladder.now ≡ ladder_length → result ≡ bucket_in ladder.now metres) × (result ≤ max_thresholds) × ((ts : List ℕ) → LadderOf ts ladder.now → (k : ℕ) → k < length ts → leb result k ≡ leb metres (get_or ts k 0)) }
 {
@@ -143,5 +163,5 @@ pub fn first_admitting(ladder: &[u32], metres: u64) -> usize
         return STEPS;
     }
     let cells = read_cells(ladder);
-    lesser(find(ladder, cells, metres) as u64, STEPS as u64) as usize
+    find(ladder, cells, metres).min(STEPS)
 }

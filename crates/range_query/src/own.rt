@@ -3,52 +3,28 @@ ghost use Rattle.std.specs.Prelude.{true, ◌≡◌, ◌*◌, ◌≤◌, leb, le
 ghost use Rattle.model.specs.Counting.{count_if};
 ghost use Rattle.model.specs.Limits.{max_events, max_thresholds};
 ghost use Rattle.edge_pair.specs.Totals.{Added};
-ghost use Rattle.range_query.specs.Ladder.{ladder_length, cells_of, found_in};
+ghost use Rattle.range_query.specs.Ladder.{ladder_length, cells_of, bucket_in};
 ghost use Rattle.range_query.specs.Metres.{metres_between, Mirrored, tallied};
 
 use crate::lookup::{Cells, find};
-use crate::pairs::meet;
+use crate::pairs::{add_row, meet};
 use edge_pair::{EdgePair, change_from, to_end};
-use model::{EventSet, equals_end};
-
-// Two lists are the same.
-fn are_same(xs: &[u32], ys: &[u32]) -> bool
-    ensures { result ≡ true → xs.now ≡ ys.now }
-{
-    if xs.len() != ys.len() {
-        return false;
-    }
-    let mut k = 0;
-    while k < xs.len() {
-        if xs[k] != ys[k] {
-            return false;
-        }
-        k += 1;
-    }
-    true
-}
+use model::EventSet;
 
 // True only if two runs are the same on one edge, so that two places are as far apart one way as the other.
 fn is_own(edges: EdgePair, xs: &[u32], ys: &[u32]) -> bool
     ensures { result ≡ true → Mirrored edges × (length xs.now ≤ max_events) × (xs.now ≡ ys.now) }
 {
-    if !edges.same {
-        return false;
-    }
-    if edges.length1 != edges.length2 {
-        return false;
-    }
-    if edges.fs != edges.sf {
-        return false;
-    }
-    if EventSet::MAX_EVENTS < xs.len() {
-        return false;
-    }
-    are_same(xs, ys)
+    edges.same
+        && edges.length1 == edges.length2
+        && edges.fs == edges.sf
+        && xs.len() <= EventSet::MAX_EVENTS
+        && xs == ys
 }
 
 // Counts the pairs of so many events at one offset with those of a run, or of a part of one, each from the first threshold on that
 // admits its metres.
+#[tactic(auto, unfolding(edge_pair::specs::Edges::side_of))]
 fn add_row_along(
     edges: EdgePair,
     x: u32,
@@ -59,17 +35,12 @@ fn add_row_along(
     totals: &mut [u64],
 )
     requires { (length ladder.now ≡ ladder_length) × (cells ≡ cells_of ladder.now) }
-    ensures { Added max_thresholds (λ k. many * count_if (λ y. leb (found_in ladder.now (metres_between edges x y)) k) ys.now) totals.old totals.new }
+    ensures { Added max_thresholds (λ k. many * count_if (λ y. leb (bucket_in ladder.now (metres_between edges x y)) k) ys.now) totals.old totals.new }
 {
     let p = to_end(edges, x, true);
     let q = to_end(edges, x, false);
-    let mut j = 0;
-    while j < ys.len() {
-        let metres = meet(edges, p, q, x, ys[j]);
-        let step = find(ladder, cells, metres);
-        change_from(totals, step, 0, many);
-        j += 1;
-    }
+    let metres_to = |y: u32| meet(edges, p, q, x, y);
+    add_row(metres_to, many, ys, ladder, cells, totals);
 }
 
 // Counts the ordered pairs of two events of a run, an event with itself included: the events at one offset together, with each other
@@ -79,17 +50,26 @@ fn add_own(edges: EdgePair, xs: &[u32], ladder: &[u32], cells: Cells, totals: &m
     ensures { Added max_thresholds (tallied ladder.now edges xs.now xs.now) totals.old totals.new }
 {
     let at_once = find(ladder, cells, 0);
-    let mut i = 0;
-    while i < xs.len() {
-        let end = equals_end(xs, i);
-        let many = (end - i) as u64;
-        add_row_along(edges, xs[i], 2 * many, &xs[..i], ladder, cells, totals);
+    let mut before = 0;
+    for equals in xs.chunk_by(|a, b| a == b) {
+        let many = equals.len() as u64;
+        let both_ways = 2 * many;
+        add_row_along(
+            edges,
+            equals[0],
+            both_ways,
+            &xs[..before],
+            ladder,
+            cells,
+            totals,
+        );
         change_from(totals, at_once, 0, many * many);
-        i = end;
+        before += equals.len();
     }
 }
 
-// Counts the pairs of an event of one run and one of another.
+// Counts the pairs of an event of one run and one of another. `add_pairs` has the same loop over another row: one function for both
+// would need a closure that is lent the totals, and is no shorter.
 fn add_along(
     edges: EdgePair,
     xs: &[u32],
@@ -101,11 +81,16 @@ fn add_along(
     requires { (length ladder.now ≡ ladder_length) × (cells ≡ cells_of ladder.now) }
     ensures { Added max_thresholds (tallied ladder.now edges xs.now ys.now) totals.old totals.new }
 {
-    let mut i = 0;
-    while i < xs.len() {
-        let end = equals_end(xs, i);
-        add_row_along(edges, xs[i], (end - i) as u64, ys, ladder, cells, totals);
-        i = end;
+    for equals in xs.chunk_by(|a, b| a == b) {
+        add_row_along(
+            edges,
+            equals[0],
+            equals.len() as u64,
+            ys,
+            ladder,
+            cells,
+            totals,
+        );
     }
 }
 

@@ -5,16 +5,16 @@ use mathlib.Core.Path.{◌≡◌, refl, sym, ap, ◌∙◌}
 use Prim.Native.Nat.{ℕ, suc, ◌≤◌}
 use native.Mathlib.Omega.{arith}
 use lib.ListN.{length, take, drop}
+use Rattle.std.specs.Prelude.{Option, Some, None}
 use Rattle.model.specs.Refusal.{unless}
+use Rattle.model.specs.declared.refusal.Fault.TheVariants.{NoHeader}
 use Rattle.text.specs.Fields.{same_bytes_of}
 use Rattle.text.specs.Lines.{csv_lines}
 use Rattle.text.specs.NextLine.{csv_line_of}
 use Rattle.text.specs.declared.lines.Line.{Line}
 use Rattle.text.proofs.Laws.Lines.{csv-next}
-use Rattle.text.specs.Reading.{Step, taken, refused_at, read_lines, require, next, no_header}
+use Rattle.text.specs.Reading.{Step, taken, refused_at, read_lines, require, next}
 use Rattle.reading.specs.Header.{is_headed, header_check, header_of, header_verdict, HeaderRead}
-use Rattle.reading.specs.declared.header.Header.{Header}
-use Rattle.reading.specs.declared.header.Header.TheVariants.{RowsFrom, Missing}
 use Rattle.reading.proofs.Progress.{rest, rest-is}
 use Rattle.reading.proofs.Require.{holds, fails}
 
@@ -35,13 +35,13 @@ pub record RowsAt (header bytes : List ℕ) (n : ℕ) : Type 0 where
   pub rows : csv_lines (drop n bytes) ≡ behind_first (csv_lines bytes)
 
 -- the answer by cases
-by-header : (header bytes : List ℕ) {headed : Bool} → is_headed header (csv_lines bytes) ≡ headed → header_of header bytes ≡ cond headed (RowsFrom (csv_line_of bytes).next) Missing
+by-header : (header bytes : List ℕ) {headed : Bool} → is_headed header (csv_lines bytes) ≡ headed → header_of header bytes ≡ cond headed (Some (csv_line_of bytes).next) None
 unfolding header_of
 by-header header bytes {headed = true} e = rw e
 by-header header bytes {headed = false} e = rw e
 
 -- a text with no byte has no header
-pub no_text : (header bytes : List ℕ) → length bytes ≡ 0 → Missing ≡ header_of header bytes
+pub no_text : (header bytes : List ℕ) → length bytes ≡ 0 → None ≡ header_of header bytes
 unfolding csv_lines is_headed header_of
 no_text header [] e = refl
 no_text header (b ∷ bytes) e = absurd (omega arith)
@@ -52,14 +52,14 @@ module _ (header bytes : List ℕ) {line : Line} (some : 1 ≤ length bytes) (is
   unfolding is_headed
   headed-is = ap (is_headed header) ((csv-next is).parts some)
 
-  pub header-missing : same_bytes_of (take line.end bytes) header ≡ false → Missing ≡ header_of header bytes
+  pub header-missing : same_bytes_of (take line.end bytes) header ≡ false → None ≡ header_of header bytes
   header-missing e = sym (by-header header bytes (headed-is ∙ e))
 
-  pub header-found : same_bytes_of (take line.end bytes) header ≡ true → RowsFrom line.next ≡ header_of header bytes
-  header-found e = ap (λ (l : Line). RowsFrom l.next) is ∙ sym (by-header header bytes (headed-is ∙ e))
+  pub header-found : same_bytes_of (take line.end bytes) header ≡ true → Some line.next ≡ header_of header bytes
+  header-found e = ap (λ (l : Line). Some l.next) is ∙ sym (by-header header bytes (headed-is ∙ e))
 
 -- the verdict that goes with the answer
-pub header_read : (header bytes : List ℕ) {r : Header} → r ≡ header_of header bytes → HeaderRead header bytes r
+pub header_read : (header bytes : List ℕ) {r : Option ℕ} → r ≡ header_of header bytes → HeaderRead header bytes r
 unfolding header_verdict header_check unless
 header_read header bytes {r} answer = go (is_headed header (csv_lines bytes)) refl
   where
@@ -78,7 +78,7 @@ unfolding behind_first
 rest-behind e = rw e
 
 -- What a caller learns of a header that was found, and of one that is missing.
-pub rows-found : {header bytes : List ℕ} {r : Header} {n : ℕ} → HeaderRead header bytes r → r ≡ RowsFrom n → RowsAt header bytes n
+pub rows-found : {header bytes : List ℕ} {r : Option ℕ} {n : ℕ} → HeaderRead header bytes r → r ≡ Some n → RowsAt header bytes n
 rows-found {header} {bytes} {r} {n} read found = go (is_headed header (csv_lines bytes)) refl
   where
     go : (headed : Bool) → is_headed header (csv_lines bytes) ≡ headed → RowsAt header bytes n
@@ -88,7 +88,7 @@ rows-found {header} {bytes} {r} {n} read found = go (is_headed header (csv_lines
         let line = csv-next {rest = bytes} refl in
         rw at (record { headed = e; within = line.inside; rows = sym (rest-behind (line.parts (some_bytes header bytes e))) })
 
-pub none_found : (header bytes : List ℕ) {r : Header} → HeaderRead header bytes r → r ≡ Missing → is_headed header (csv_lines bytes) ≡ false
+pub none_found : (header bytes : List ℕ) {r : Option ℕ} → HeaderRead header bytes r → r ≡ None → is_headed header (csv_lines bytes) ≡ false
 none_found header bytes {r} read missing = go (is_headed header (csv_lines bytes)) refl
   where
     go : (headed : Bool) → is_headed header (csv_lines bytes) ≡ headed → headed ≡ false
@@ -96,17 +96,17 @@ none_found header bytes {r} read missing = go (is_headed header (csv_lines bytes
     go true e = absurd (let z : ◌≡◌ {A = ℕ} 0 1 = cc (read.answer, by-header header bytes e) in omega arith)
 
 -- A reading whose first step asks for the header.
-module _ {State : Type 0} (header : List ℕ) (step : State → List ℕ → Step State) (start first : State) (asks : (line : List ℕ) → step start line ≡ require (same_bytes_of line header) no_header (taken first)) where
+module _ {State : Type 0} (header : List ℕ) (step : State → List ℕ → Step State) (start first : State) (asks : (line : List ℕ) → step start line ≡ require (same_bytes_of line header) NoHeader (taken first)) where
   -- the rows are read from line 2 on
   pub rows_left : (lines : List (List ℕ)) → is_headed header lines ≡ true → read_lines step 1 start lines ≡ read_lines step 2 first (behind_first lines)
   unfolding is_headed behind_first read_lines next
   rows_left [] e = absurd (false≢true e)
-  rows_left (line ∷ more) e = rw (asks line ∙ holds no_header e refl)
+  rows_left (line ∷ more) e = rw (asks line ∙ holds NoHeader e refl)
 
   -- refused at line 1
-  pub no_rows : (line : List ℕ) (more : List (List ℕ)) → is_headed header (line ∷ more) ≡ false → read_lines step 1 start (line ∷ more) ≡ refused_at no_header 1
+  pub no_rows : (line : List ℕ) (more : List (List ℕ)) → is_headed header (line ∷ more) ≡ false → read_lines step 1 start (line ∷ more) ≡ refused_at NoHeader 1
   unfolding is_headed read_lines next
-  no_rows line more e = rw (asks line ∙ fails no_header (taken first) e)
+  no_rows line more e = rw (asks line ∙ fails NoHeader (taken first) e)
 
 -- a headed text has one line more than it has rows
 pub one-line-more : (header : List ℕ) (lines : List (List ℕ)) → is_headed header lines ≡ true → length lines ≡ suc (length (behind_first lines))

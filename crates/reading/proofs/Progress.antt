@@ -5,6 +5,7 @@ use Prim.Native.Nat.{ℕ, suc, ◌+◌, ◌-◌, ◌≤◌, ◌<◌}
 use native.Mathlib.Omega.{arith}
 use lib.ListN.{length, take, drop, length-drop, drop_of_length-le}
 use lib.Seq.{drop-drop, take_all, length-take-le}
+use Rattle.model.specs.declared.refusal.Fault.{Fault}
 use Rattle.text.proofs.Laws.Lines.{NextLine}
 use Rattle.text.specs.Reading.{Step, taken, refused, read, refused_at, next, read_lines}
 
@@ -16,7 +17,7 @@ read_alike {State} f g alike place s (line ∷ more) = rw (alike s line) (by (g 
   where
     by : (t : Step State) → ((s' : State) → read_lines f (suc place) s' more ≡ read_lines g (suc place) s' more) → next t place (λ s'. read_lines f (suc place) s' more) ≡ next t place (λ s'. read_lines g (suc place) s' more)
     by (taken s') same = same s'
-    by (refused number) same = refl
+    by (refused fault) same = refl
 
 -- the rest of a text from a byte on, as a part that is lent
 abbrev pub rest : List ℕ → ℕ → List ℕ
@@ -65,7 +66,7 @@ module _ {State : Type 0} {lines : List ℕ → List (List ℕ)} {step : State �
         }
 
     -- the line is refused: the reading ends at its place
-    pub stops : {number : ℕ} → step s (take end (rest text at)) ≡ refused number → read_lines step first start (lines text) ≡ refused_at number place
+    pub stops : {fault : Fault} → step s (take end (rest text at)) ≡ refused fault → read_lines step first start (lines text) ≡ refused_at fault place
     unfolding read_lines next
     stops t = sym p.same ∙ ap (read_lines step place s) left ∙ rw t
 

@@ -1,38 +1,30 @@
 -- What a reader answers and leaves in its answer lists, whichever text it reads: an outcome as a check and as a list,
 -- then one answer list filled, and three.
-use Rattle.std.specs.Prelude.{List, [], ◌≡◌, ℕ, length}
-use Rattle.model.specs.Answer.{written}
+use Rattle.std.specs.Prelude.{List, [], ◌≡◌, ℕ, length, Result, Ok, Err}
+use Rattle.model.specs.Answer.{answer, written}
 use Rattle.model.specs.Checks.{same_length_of, room_check}
-use Rattle.model.specs.Refusal.{or_else}
-use Rattle.model.specs.declared.check.Check.{Check}
-use Rattle.model.specs.declared.check.Check.TheVariants.{Accepted, Refused}
+use Rattle.model.specs.Refusal.{or_else, Check, accepted, refusal}
+use Rattle.model.specs.declared.refusal.Refusal.{Refusal}
 use Rattle.text.specs.Reading.{Outcome, read, refused_at}
-use Rattle.reading.specs.declared.answers.ReadList.{ReadList}
-use Rattle.reading.specs.declared.answers.ReadList.TheVariants as list-answer
 
 -- an outcome as a check
 unfoldable pub check_of : {State : Type 0} → Outcome State → Check
-check_of (read s) = Accepted
-check_of (refused_at number place) = Refused number place
+check_of (read s) = accepted
+check_of (refused_at fault place) = refusal fault place
 
 -- the entries of a list that was read, none otherwise
 unfoldable pub list_in : {A : Type 0} → Outcome (List A) → List A
 list_in (read xs) = xs
-list_in (refused_at number place) = []
-
--- the answer that belongs to a check: how many entries were read, or the refusal
-unfoldable pub list_answer : Check → ℕ → ReadList
-list_answer Accepted n = list-answer.Read n
-list_answer (Refused number place) n = list-answer.Refused number place
+list_in (refused_at fault place) = []
 
 -- how many entries were read
-unfoldable pub entries : ReadList → ℕ
-entries (list-answer.Read count) = count
-entries (list-answer.Refused number place) = 0
+unfoldable pub entries : Result ℕ Refusal → ℕ
+entries (Ok count) = count
+entries (Err r) = 0
 
 -- one answer list filled with values, or too short for them
-pub record Answered (xs old : List ℕ) (r : ReadList) (new : List ℕ) : Type 0 where
-  pub answer : r ≡ list_answer (room_check (length xs) old) (length xs)
+pub record Answered (xs old : List ℕ) (r : Result ℕ Refusal) (new : List ℕ) : Type 0 where
+  pub answer : r ≡ answer (room_check (length xs) old) (length xs)
   pub after : new ≡ written (room_check (length xs) old) xs old
 
 -- 2 for three answer lists

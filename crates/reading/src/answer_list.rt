@@ -2,49 +2,38 @@
 ghost use Rattle.std.specs.Prelude.{◌++◌, ◌≡◌, ◌≤◌, length, drop};
 ghost use Rattle.reading.specs.Answers.{Answered, rooms_check, three_check, AnsweredThree};
 
-use crate::answers::ReadList;
-use model::Check;
-use validate::check_room;
+use model::Refusal;
+use validate::{check_room, same_length};
 
 // The values come to the front of the answer list, the surplus entries stay.
 fn fill(values: &[u32], answers: &mut [u32])
     requires { length values.now ≤ length answers.old }
     ensures { answers.new ≡ values.now ++ drop (length values.now) answers.old }
 {
-    let mut i = 0;
-    while i < values.len() {
-        answers[i] = values[i];
-        i += 1;
-    }
+    answers[..values.len()].copy_from_slice(values);
 }
 
 // 2 for one answer list, or the list filled.
-pub fn answer(values: &[u32], answers: &mut [u32]) -> ReadList
+pub fn answer(values: &[u32], answers: &mut [u32]) -> Result<usize, Refusal>
     ensures { Answered values.now answers.old result answers.new }
 {
-    if let Check::Refused(number, place) = check_room(values.len(), answers) {
-        return ReadList::Refused(number, place);
-    }
+    check_room(values.len(), answers)?;
     fill(values, answers);
-    ReadList::Read(values.len())
+    Ok(values.len())
 }
 
 // 2 for three answer lists.
-fn check_rooms(count: usize, first: &[u32], second: &[u32], third: &[u32]) -> Check
+#[tactic(auto, unfolding(crate::specs::Answers::rooms_check, model::specs::Refusal::or_else))]
+fn check_rooms(count: usize, first: &[u32], second: &[u32], third: &[u32]) -> Result<(), Refusal>
     ensures { result ≡ rooms_check count first.now second.now third.now }
 {
-    let first_room = check_room(count, first);
-    if let Check::Refused(_, _) = first_room {
-        return first_room;
-    }
-    let second_room = check_room(count, second);
-    if let Check::Refused(_, _) = second_room {
-        return second_room;
-    }
+    check_room(count, first)?;
+    check_room(count, second)?;
     check_room(count, third)
 }
 
 // 2 for three lists of values that differ in length, then for the answer lists.
+#[tactic(auto, unfolding(crate::specs::Answers::three_check, model::specs::Refusal::or_else))]
 fn check_three(
     xs: &[u32],
     ys: &[u32],
@@ -52,15 +41,11 @@ fn check_three(
     first: &[u32],
     second: &[u32],
     third: &[u32],
-) -> Check
+) -> Result<(), Refusal>
     ensures { result ≡ three_check xs.now ys.now zs.now first.now second.now third.now }
 {
-    if ys.len() != xs.len() {
-        return Check::Refused(Check::LISTS_DIFFER, 0);
-    }
-    if zs.len() != xs.len() {
-        return Check::Refused(Check::LISTS_DIFFER, 0);
-    }
+    same_length(ys, xs)?;
+    same_length(zs, xs)?;
     check_rooms(xs.len(), first, second, third)
 }
 
@@ -72,15 +57,12 @@ pub fn answer_three(
     first: &mut [u32],
     second: &mut [u32],
     third: &mut [u32],
-) -> Check
+) -> Result<(), Refusal>
     ensures { AnsweredThree xs.now ys.now zs.now first.old second.old third.old result first.new second.new third.new }
 {
-    let check = check_three(xs, ys, zs, first, second, third);
-    if let Check::Refused(_, _) = check {
-        return check;
-    }
+    check_three(xs, ys, zs, first, second, third)?;
     fill(xs, first);
     fill(ys, second);
     fill(zs, third);
-    check
+    Ok(())
 }

@@ -1,22 +1,19 @@
 -- What is printed for three texts: the line of the first that is refused, otherwise the table.
-use Rattle.std.specs.Prelude.{List, [], ◌∷◌, ◌++◌, map, ◌≡◌, ℕ, ◌+◌, ◌*◌, ◌≤◌, length}
-use Rattle.model.specs.Answer.{written}
+use Rattle.std.specs.Prelude.{List, [], ◌∷◌, ◌++◌, map, ◌≡◌, ℕ, ◌+◌, ◌*◌, ◌≤◌, length, Result, Ok, Err}
+use Rattle.model.specs.declared.refusal.Refusal.{Refusal}
+use Rattle.model.specs.Refusal.{Check, fault_number}
+use Rattle.model.specs.Answer.{answer, written}
 use Rattle.model.specs.Checks.{room_check}
 use Rattle.model.specs.Envelope.{Envelope, observed, envelope}
 use Rattle.model.specs.Events.{Event, events}
 use Rattle.model.specs.Limits.{max_thresholds}
 use Rattle.model.specs.Network.{Network}
-use Rattle.model.specs.declared.check.Check.{Check}
-use Rattle.model.specs.declared.check.Check.TheVariants.{Accepted, Refused}
-use Rattle.printing.specs.Answers.{printed_answer}
 use Rattle.text.specs.Lines.{line_end_of}
+use Rattle.text.specs.EventText.{Row}
 use Rattle.printing.specs.Bytes.{header, row, refusal_line}
-use Rattle.printing.specs.declared.answers.Printed.{Printed}
-use Rattle.printing.specs.declared.answers.Printed.TheVariants as printed
 use Rattle.network_reader.specs.Answers.{text_network, network_file_check}
 use Rattle.event_reader.specs.Answers.{text_rows, event_file_check}
 use Rattle.threshold_reader.specs.Answers.{text_thresholds, threshold_file_check}
-use Rattle.text.specs.EventText.{Row}
 
 -- the bytes of `network.gr`, `reports.csv` and `thresholds.csv`
 abbrev pub network_name : List ℕ
@@ -30,8 +27,8 @@ thresholds_name = 116 ∷ 104 ∷ 114 ∷ 101 ∷ 115 ∷ 104 ∷ 111 ∷ 108 �
 
 -- the line of a file that is refused, otherwise what comes next
 unfoldable pub line_or : Check → List ℕ → List ℕ → List ℕ
-line_or Accepted file more = more
-line_or (Refused number place) file more = refusal_line file number place
+line_or (Ok done) file more = more
+line_or (Err r) file more = refusal_line file (fault_number r.fault) r.place
 
 -- a row for each threshold
 unfoldable pub table_rows : (ℕ → ℕ) → (ℕ → Envelope) → List ℕ → List ℕ
@@ -62,11 +59,11 @@ abbrev pub report_room : ℕ
 report_room = 35 + max_thresholds * 85
 
 -- these bytes are printed, if there is room for them: 2 otherwise
-pub record BytesPrinted (bytes out : List ℕ) (r : Printed) (out' : List ℕ) : Type 0 where
-  pub answer : r ≡ printed_answer (room_check (length bytes) out) (length bytes)
+pub record BytesPrinted (bytes out : List ℕ) (r : Result ℕ Refusal) (out' : List ℕ) : Type 0 where
+  pub answer : r ≡ answer (room_check (length bytes) out) (length bytes)
   pub after : out' ≡ written (room_check (length bytes) out) bytes out
 
 -- the promise of the report
-pub record ReportPrinted (network reports thresholds out : List ℕ) (r : Printed) (out' : List ℕ) : Type 0 where
+pub record ReportPrinted (network reports thresholds out : List ℕ) (r : Result ℕ Refusal) (out' : List ℕ) : Type 0 where
   pub bytes_are : BytesPrinted (report_bytes network reports thresholds) out r out'
-  pub never_refused : report_room ≤ length out → r ≡ printed.Bytes (length (report_bytes network reports thresholds))
+  pub never_refused : report_room ≤ length out → r ≡ Ok (length (report_bytes network reports thresholds))

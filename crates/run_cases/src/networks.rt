@@ -1,48 +1,54 @@
 // Functions of a network and more.
-use crate::show::verdict;
-use crate::{checks, distances, events};
+use crate::functions::OnNetwork;
+use crate::show::answer;
+use crate::{checks, counts, cursors, distances, events};
 use cases::list;
-use model::value_at;
+use model::{Network, Reports, value_at};
 use std::io::Write;
 
-fn on_network(
-    output: &mut impl Write,
-    function: u32,
-    nodes: u32,
-    firsts: &[u32],
-    seconds: &[u32],
-    lengths: &[u32],
-    lists: &[u32],
-) {
-    match function {
-        1 => verdict(
-            output,
-            validate::check_network(nodes, firsts, seconds, lengths),
-        ),
-        2 => checks::two_nodes(output, nodes, firsts, seconds, lengths, lists),
-        3 => checks::two_locations(output, nodes, firsts, seconds, lengths, lists),
-        4 => checks::sets(output, nodes, firsts, seconds, lengths, lists),
-        5 => checks::set(output, nodes, firsts, seconds, lengths, lists),
-        6 => checks::laid_out(output, nodes, firsts, seconds, lengths, lists),
-        7 => events::stretch(output, nodes, firsts, seconds, lengths, lists),
-        8 => distances::of_nodes(output, nodes, firsts, seconds, lengths, lists),
-        9 => distances::of_nodes_within(output, nodes, firsts, seconds, lengths, lists),
-        10 => distances::of_locations(output, nodes, firsts, seconds, lengths, lists),
-        11 => distances::perimeter(output, nodes, firsts, seconds, lengths, lists),
-        12 => distances::row(output, nodes, firsts, seconds, lengths, lists),
-        _ => distances::table(output, nodes, firsts, seconds, lengths, lists),
+// The network that the lists of a case begin with.
+pub(crate) fn network_of(lists: &[u32]) -> Network {
+    Network {
+        nodes: value_at(lists, 1),
+        firsts: list(lists, 1),
+        seconds: list(lists, 2),
+        lengths: list(lists, 3),
     }
 }
 
-// What the function of a number says of a case.
-pub(crate) fn asked(output: &mut impl Write, function: u32, lists: &[u32]) {
-    on_network(
-        output,
-        function,
-        value_at(lists, 1),
-        list(lists, 1),
-        list(lists, 2),
-        list(lists, 3),
-        lists,
-    );
+// The reports that follow the network.
+pub(crate) fn reports_of(lists: &[u32]) -> Reports {
+    Reports {
+        sets: list(lists, 4),
+        edges: list(lists, 5),
+        offsets: list(lists, 6),
+    }
+}
+
+// What a function says of a network and the lists of a case.
+fn on_network(output: &mut impl Write, function: OnNetwork, network: Network, lists: &[u32]) {
+    match function {
+        OnNetwork::CheckNetwork => answer(output, validate::check_network(network)),
+        OnNetwork::CheckNodes => checks::two_nodes(output, network, lists),
+        OnNetwork::CheckLocations => checks::two_locations(output, network, lists),
+        OnNetwork::CheckSets => checks::sets(output, network, lists),
+        OnNetwork::CheckSet => checks::set(output, network, lists),
+        OnNetwork::CheckLaidOut => checks::laid_out(output, network, lists),
+        OnNetwork::EventsOn => events::stretch(output, network, lists),
+        OnNetwork::NodeDistance => distances::of_nodes(output, network, lists),
+        OnNetwork::BoundedNodeDistance => distances::of_nodes_within(output, network, lists),
+        OnNetwork::LocationDistance => distances::of_locations(output, network, lists),
+        OnNetwork::PerimeterCount => distances::perimeter(output, network, lists),
+        OnNetwork::DistancesFrom => distances::row(output, network, lists),
+        OnNetwork::EndDistances => distances::table(output, network, lists),
+        OnNetwork::Counts => counts::three(output, network, lists),
+        OnNetwork::Augment => counts::stored(output, network, lists),
+        OnNetwork::Cursors => cursors::swept(output, network, lists),
+        OnNetwork::PairCounts => counts::all_at_once(output, network, lists),
+    }
+}
+
+// What a function says of the network and the other lists of a case.
+pub(crate) fn asked(output: &mut impl Write, function: OnNetwork, lists: &[u32]) {
+    on_network(output, function, network_of(lists), lists);
 }

@@ -1,34 +1,27 @@
 // The line of a refusal, printed into a list of bytes.
-use crate::show::{line_end, refusal, word};
+use crate::show::{answer, line_end, word};
 use cases::{numbers, text};
-use model::value_at;
-use printing::Printed;
+use model::{Refusal, value_at};
 use std::io::{Read, Write};
 
 // No name of a file and no list of bytes is longer.
 const TEXT: usize = 40;
 
-// The bytes that were printed.
-fn front(output: &mut impl Write, n: usize, out: &[u8]) {
-    if n <= out.len() {
-        word(output, &out[..n]);
-    }
-}
-
 // A refusal, and what the list of bytes holds.
-fn refused(output: &mut impl Write, number: u32, place: usize, out: &[u8]) {
+fn refused(output: &mut impl Write, refusal: Refusal, out: &[u8]) {
     word(output, b"list of bytes");
-    refusal(output, number, place);
-    line_end(output);
+    answer(output, refusal);
     word(output, out);
     line_end(output);
 }
 
+#[tactic(auto, unfolding(model::specs::Answer::answer, model::specs::Answer::written, model::specs::Checks::room_check))]
 fn line(output: &mut impl Write, file: &[u8], number: u32, place: usize, out: &mut [u8]) {
     line_end(output);
     match printing::print_refusal(file, number, place, out) {
-        Printed::Bytes(n) => front(output, n, out),
-        Printed::Refused(number, place) => refused(output, number, place, out),
+        // The bytes that were printed, for which there was room.
+        Ok(count) => word(output, &out[..count]),
+        Err(refusal) => refused(output, refusal, out),
     }
 }
 

@@ -1,8 +1,9 @@
 // The three readers.
-use crate::show::named;
-use crate::{answers, labels};
+use crate::functions::OnText;
+use crate::labels::Label;
+use crate::networks::network_of;
+use crate::show::{answer, named};
 use cases::{filled, list, numbers};
-use model::value_at;
 use std::io::{Read, Write};
 
 // No text for a reader alone is longer.
@@ -14,8 +15,8 @@ const ROOM: usize = 8;
 fn thresholds(output: &mut impl Write, text: &[u8], lists: &[u32]) {
     let mut first = [0; ROOM];
     let thresholds = filled(list(lists, 1), &mut first);
-    answers::read_list(output, threshold_reader::read_thresholds(text, thresholds));
-    named(output, labels::THRESHOLDS, thresholds);
+    answer(output, threshold_reader::read_thresholds(text, thresholds));
+    named(output, Label::Thresholds, thresholds);
 }
 
 // Over a network that is lent.
@@ -26,22 +27,13 @@ fn events(output: &mut impl Write, text: &[u8], lists: &[u32]) {
     let sets = filled(list(lists, 4), &mut first);
     let edges = filled(list(lists, 5), &mut second);
     let offsets = filled(list(lists, 6), &mut third);
-    answers::read_list(
+    answer(
         output,
-        event_reader::read_events(
-            text,
-            value_at(lists, 1),
-            list(lists, 1),
-            list(lists, 2),
-            list(lists, 3),
-            sets,
-            edges,
-            offsets,
-        ),
+        event_reader::read_events(text, network_of(lists), sets, edges, offsets),
     );
-    named(output, labels::SETS, sets);
-    named(output, labels::EDGES, edges);
-    named(output, labels::OFFSETS, offsets);
+    named(output, Label::Sets, sets);
+    named(output, Label::Edges, edges);
+    named(output, Label::Offsets, offsets);
 }
 
 fn network(output: &mut impl Write, text: &[u8], lists: &[u32]) {
@@ -51,28 +43,28 @@ fn network(output: &mut impl Write, text: &[u8], lists: &[u32]) {
     let firsts = filled(list(lists, 1), &mut first);
     let seconds = filled(list(lists, 2), &mut second);
     let lengths = filled(list(lists, 3), &mut third);
-    answers::read_network(
+    answer(
         output,
         network_reader::read_network(text, firsts, seconds, lengths),
     );
-    named(output, labels::FIRST_NODES, firsts);
-    named(output, labels::SECOND_NODES, seconds);
-    named(output, labels::LENGTHS, lengths);
+    named(output, Label::FirstNodes, firsts);
+    named(output, Label::SecondNodes, seconds);
+    named(output, Label::Lengths, lengths);
 }
 
-fn on_text(output: &mut impl Write, function: u32, text: &[u8], lists: &[u32]) {
+fn on_text(output: &mut impl Write, function: OnText, text: &[u8], lists: &[u32]) {
     match function {
-        20 => thresholds(output, text, lists),
-        21 => events(output, text, lists),
-        _ => network(output, text, lists),
+        OnText::ReadThresholds => thresholds(output, text, lists),
+        OnText::ReadEvents => events(output, text, lists),
+        OnText::ReadNetwork => network(output, text, lists),
     }
 }
 
-// What the reader of a number says of a case.
+// What a reader says of a case.
 pub(crate) fn asked(
     input: &mut impl Read,
     output: &mut impl Write,
-    function: u32,
+    function: OnText,
     room: &mut [u32],
 ) {
     let mut bytes = [0u8; TEXT];

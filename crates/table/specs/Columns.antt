@@ -3,8 +3,8 @@ use Rattle.std.specs.Prelude.{List, map, ◌≡◌, ℕ, suc, ◌+◌, ◌*◌, 
 use Rattle.model.specs.Answer.{written}
 use Rattle.model.specs.Counting.{numbers_from}
 use Rattle.model.specs.Envelope.{Envelope, between, envelope_of}
-use Rattle.model.specs.declared.check.Check.TheVariants as check
-use Rattle.table.specs.Table.{leasts, greatests, spanned, table_answer}
+use Rattle.model.specs.Refusal.{accepted}
+use Rattle.table.specs.Table.{leasts, greatests, spanned, columns_of}
 use Rattle.table.specs.declared.answers.Table.{Table}
 use Rattle.table.specs.declared.spans.Span.{Span}
 
@@ -32,10 +32,10 @@ pub record ColumnThere (rows : List ℕ) (width greatest k : ℕ) : Type 0 where
 
 -- the columns are filled: the first row, and both ends of the envelopes
 pub record ColumnsFilled (rows : List ℕ) (width greatest : ℕ) (first second third : List ℕ) (r : Table) (first' second' third' : List ℕ) : Type 0 where
-  pub answer : r ≡ table_answer check.Accepted greatest
-  pub observed_after : first' ≡ written check.Accepted (take width rows) first
-  pub lower_after : second' ≡ written check.Accepted (leasts (columns rows width greatest)) second
-  pub upper_after : third' ≡ written check.Accepted (greatests (columns rows width greatest)) third
+  pub answer : r ≡ columns_of greatest
+  pub observed_after : first' ≡ written accepted (take width rows) first
+  pub lower_after : second' ≡ written accepted (leasts (columns rows width greatest)) second
+  pub upper_after : third' ≡ written accepted (greatests (columns rows width greatest)) third
 
 -- there is room for them
 pub record ColumnsFit (rows : List ℕ) (width greatest : ℕ) (first second third : List ℕ) : Type 0 where

@@ -5,17 +5,6 @@ ghost use Rattle.table.specs.Columns.{ColumnsFilled, ColumnsFit};
 use crate::answers::Table;
 use crate::spans::fill_spans;
 
-fn copy(values: &[u32], out: &mut [u32])
-    requires { length out.old ≡ length values.now }
-    ensures { out.new ≡ values.now }
-{
-    let mut i = 0;
-    while i < values.len() {
-        out[i] = values[i];
-        i += 1;
-    }
-}
-
 // The first row is the observed one; the rows up to the greatest set are those of the comparison sets.
 pub(crate) fn fill_columns(
     rows: &[u32],
@@ -28,7 +17,7 @@ pub(crate) fn fill_columns(
     requires { ColumnsFit rows.now width greatest observed.old lower.old upper.old }
     ensures { ColumnsFilled rows.now width greatest observed.old lower.old upper.old result observed.new lower.new upper.new }
 {
-    copy(&rows[..width], &mut observed[..width]);
+    observed[..width].copy_from_slice(&rows[..width]);
     if greatest == 0 {
         return Table::Observed;
     }

@@ -4,8 +4,6 @@ ghost use Rattle.model.specs.Envelope.{widen};
 ghost use Rattle.table.specs.Columns.{RowsThere, ColumnThere, column_from, columns, envelope_in};
 ghost use Rattle.table.specs.Table.{leasts, greatests};
 
-use model::{greater, lesser};
-
 #[derive(Clone, Copy)]
 pub struct Span {
     pub lower: u32,
@@ -13,14 +11,13 @@ pub struct Span {
 }
 
 // One more count taken in.
+#[tactic(auto, unfolding(model::specs::Envelope::widen))]
 fn widen(count: u32, span: Span) -> Span
     ensures { envelope_in result ≡ widen count (envelope_in span) }
 {
-    let lower = lesser(count as u64, span.lower as u64);
-    let upper = greater(count as u64, span.upper as u64);
     Span {
-        lower: lower as u32,
-        upper: upper as u32,
+        lower: count.min(span.lower),
+        upper: count.max(span.upper),
     }
 }
 
@@ -42,9 +39,7 @@ fn span_at(rows: &[u32], width: usize, greatest: usize, k: usize) -> Span
         lower: last,
         upper: last,
     };
-    let mut s = greatest;
-    while 1 < s {
-        s -= 1;
+    for s in (1..greatest).rev() {
         span = widen(entry(rows, width, s, k), span);
     }
     span
@@ -61,11 +56,9 @@ pub(crate) fn fill_spans(
     requires { RowsThere rows.now width greatest × (1 ≤ greatest) × (length lower.old ≡ width) × (length upper.old ≡ width) }
     ensures { (lower.new ≡ leasts (columns rows.now width greatest)) × (upper.new ≡ greatests (columns rows.now width greatest)) }
 {
-    let mut k = 0;
-    while k < width {
+    for k in 0..width {
         let span = span_at(rows, width, greatest, k);
         lower[k] = span.lower;
         upper[k] = span.upper;
-        k += 1;
     }
 }

@@ -1,9 +1,7 @@
 -- A line's fields, and the lines that hold one, two or three numbers.
-use Rattle.std.specs.Prelude.{Bool, true, false, cond, ◌&&◌, List, [], ◌∷◌, ℕ, eqb, length, take}
+use Rattle.std.specs.Prelude.{Bool, true, false, cond, ◌&&◌, List, [], ◌∷◌, Option, Some, None, ℕ, eqb, length, take}
 use Rattle.text.specs.Lines.{in_front}
 use Rattle.text.specs.Numbers.{number_of}
-use Rattle.text.specs.declared.number.Number.{Number}
-use Rattle.text.specs.declared.number.Number.TheVariants.{Value, NoNumber}
 use Rattle.text.specs.declared.fields.Numbers.{Numbers}
 use Rattle.text.specs.declared.fields.Numbers.TheVariants.{Nothing, One, Two, Three}
 
@@ -31,20 +29,20 @@ unfoldable pub begins_with_of : List ℕ → List ℕ → Bool
 begins_with_of bytes line = same_bytes_of (take (length bytes) line) bytes
 
 -- three numbers, two or one; `Nothing` where one of them is no number
-unfoldable pub of_three : Number → Number → Number → Numbers
-of_three NoNumber b c = Nothing
-of_three (Value x) NoNumber c = Nothing
-of_three (Value x) (Value y) NoNumber = Nothing
-of_three (Value x) (Value y) (Value z) = Three x y z
+unfoldable pub of_three : Option ℕ → Option ℕ → Option ℕ → Numbers
+of_three None b c = Nothing
+of_three (Some x) None c = Nothing
+of_three (Some x) (Some y) None = Nothing
+of_three (Some x) (Some y) (Some z) = Three x y z
 
-unfoldable pub of_two : Number → Number → Numbers
-of_two NoNumber b = Nothing
-of_two (Value x) NoNumber = Nothing
-of_two (Value x) (Value y) = Two x y
+unfoldable pub of_two : Option ℕ → Option ℕ → Numbers
+of_two None b = Nothing
+of_two (Some x) None = Nothing
+of_two (Some x) (Some y) = Two x y
 
-unfoldable pub of_one : Number → Numbers
-of_one NoNumber = Nothing
-of_one (Value x) = One x
+unfoldable pub of_one : Option ℕ → Numbers
+of_one None = Nothing
+of_one (Some x) = One x
 
 -- the numbers of a line of one, two or three fields; `Nothing` where a field is no number, or there are more fields
 unfoldable pub numbers_in : List (List ℕ) → Numbers

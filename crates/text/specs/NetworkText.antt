@@ -1,15 +1,16 @@
 -- A network text (.gr): what each line is, what it does, and what the whole text comes to.
+use Rattle.model.specs.declared.refusal.Fault.TheVariants.{BadLength, BadNode, BadSizes, Misplaced, NoForm, NotTurned, WrongArcs}
 use Rattle.std.specs.Prelude.{Bool, true, cond, ◌&&◌, ◌||◌, List, [], ◌∷◌, ◌++◌, map, ℕ, suc, ◌*◌, ◌%◌, eqb, ltb, length, drop}
 use Rattle.model.specs.Limits.{max_nodes, max_edges, max_length}
 use Rattle.model.specs.Network.{Network, network}
-use Rattle.model.specs.Refusal.{is_between_of, bad_sizes, bad_node, bad_length}
+use Rattle.model.specs.Refusal.{is_between_of}
 use Rattle.text.specs.Parallel.{beside}
 use Rattle.text.specs.Fields.{space, fields, same_bytes_of, begins_with_of, numbers_in}
 use Rattle.text.specs.declared.fields.Numbers.{Numbers}
 use Rattle.text.specs.declared.fields.Numbers.TheVariants.{Nothing, One, Two, Three}
 use Rattle.text.specs.declared.network_line.NetworkLine.{NetworkLine}
 use Rattle.text.specs.declared.network_line.NetworkLine.TheVariants.{Remark, Problem, Arc, Other}
-use Rattle.text.specs.Reading.{Step, taken, refused, Outcome, read, refused_at, read_lines, require, no_form, misplaced, not_turned, wrong_arcs}
+use Rattle.text.specs.Reading.{Step, taken, refused, Outcome, read, refused_at, read_lines, require}
 
 -- two numbers make a `p` line, three an `a` line
 unfoldable pub problem_in : Numbers → NetworkLine
@@ -68,33 +69,33 @@ turns_last (a ∷ a' ∷ more) b = turns_last (a' ∷ more) b
 -- 7 and 9 to 11 for one more arc: 10 is asked of every second one (8 no longer occurs: 02, item 3)
 unfoldable pub take_arc_of : ℕ → ℕ → List ArcRead → ArcRead → Step NetworkState
 take_arc_of nodes arcs before b =
-    require (is_between_of 1 nodes b.from && is_between_of 1 nodes b.to) bad_node
-    (require (is_between_of 1 max_length b.weight) bad_length
-    (require (eqb (length before % 2) 0 || turns_last before b) not_turned
-    (require (ltb (length before) arcs) wrong_arcs (taken (reading nodes arcs (before ++ (b ∷ [])))))))
+    require (is_between_of 1 nodes b.from && is_between_of 1 nodes b.to) BadNode
+    (require (is_between_of 1 max_length b.weight) BadLength
+    (require (eqb (length before % 2) 0 || turns_last before b) NotTurned
+    (require (ltb (length before) arcs) WrongArcs (taken (reading nodes arcs (before ++ (b ∷ [])))))))
 
 -- 6: N is not within the limit of nodes, or M is odd or not from 2 to twice the limit of edges
 unfoldable pub take_problem_of : ℕ → ℕ → Step NetworkState
 take_problem_of nodes arcs =
-    require (is_between_of 1 max_nodes nodes && (eqb (arcs % 2) 0 && is_between_of 2 (2 * max_edges) arcs)) bad_sizes
+    require (is_between_of 1 max_nodes nodes && (eqb (arcs % 2) 0 && is_between_of 2 (2 * max_edges) arcs)) BadSizes
     (taken (reading nodes arcs []))
 
 unfoldable pub network_step : NetworkState → NetworkLine → Step NetworkState
-network_step s Other = refused no_form
+network_step s Other = refused NoForm
 network_step s Remark = taken s
 network_step before_problem (Problem n m) = take_problem_of n m
-network_step before_problem (Arc u v w) = refused misplaced
-network_step (reading nodes arcs before) (Problem n m) = refused misplaced
+network_step before_problem (Arc u v w) = refused Misplaced
+network_step (reading nodes arcs before) (Problem n m) = refused Misplaced
 network_step (reading nodes arcs before) (Arc u v w) = take_arc_of nodes arcs before (arc u v w)
 
 -- at the end: 5 where no `p` line came, 11 where arcs are missing
 unfoldable pub network_end : ℕ → NetworkState → Outcome NetworkState
-network_end place before_problem = refused_at misplaced place
-network_end place (reading nodes arcs before) = cond (eqb (length before) arcs) (read (reading nodes arcs before)) (refused_at wrong_arcs place)
+network_end place before_problem = refused_at Misplaced place
+network_end place (reading nodes arcs before) = cond (eqb (length before) arcs) (read (reading nodes arcs before)) (refused_at WrongArcs place)
 
 unfoldable pub ended : Outcome NetworkState → ℕ → Outcome NetworkState
 ended (read s) place = network_end place s
-ended (refused_at number at) place = refused_at number at
+ended (refused_at fault at) place = refused_at fault at
 
 unfoldable pub network_lines : List (List ℕ) → Outcome NetworkState
 network_lines lines = ended (read_lines (λ s line. network_step s (network_line_text line)) 1 before_problem lines) (suc (length lines))

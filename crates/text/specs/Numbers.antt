@@ -1,8 +1,6 @@
 -- A number in a text: 1 to 10 decimal digits, no leading zero unless it is 0 itself, at most 4,294,967,295.
-use Rattle.std.specs.Prelude.{Bool, true, cond, ◌&&◌, ◌||◌, not, List, [], ◌∷◌, ℕ, ◌+◌, ◌*◌, ◌-◌, eqb, leb, length, get_or}
+use Rattle.std.specs.Prelude.{Bool, true, cond, ◌&&◌, ◌||◌, not, List, [], ◌∷◌, Option, Some, None, ℕ, ◌+◌, ◌*◌, ◌-◌, eqb, leb, length, get_or}
 use Rattle.model.specs.Refusal.{is_between_of}
-use Rattle.text.specs.declared.number.Number.{Number}
-use Rattle.text.specs.declared.number.Number.TheVariants.{Value, NoNumber}
 
 -- the digits 0 to 9 are the bytes 48 to 57
 unfoldable pub is_digit_of : ℕ → Bool
@@ -28,5 +26,5 @@ well_formed bs =
     is_between_of 1 max_digits (length bs) &&
     (all_digits_of bs && ((eqb (length bs) 1 || not (eqb (get_or bs 0 0) 48)) && leb (decimal 0 bs) max_number))
 
-unfoldable pub number_of : List ℕ → Number
-number_of bs = cond (well_formed bs) (Value (decimal 0 bs)) NoNumber
+unfoldable pub number_of : List ℕ → Option ℕ
+number_of bs = cond (well_formed bs) (Some (decimal 0 bs)) None

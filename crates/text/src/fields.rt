@@ -1,8 +1,8 @@
 // The fields of a line.
-ghost use Rattle.std.specs.Prelude.{◌≡◌};
+ghost use Rattle.std.specs.Prelude.{◌≡◌, [], ◌∷◌, MatchOption};
 ghost use Rattle.text.specs.Fields.{fields, same_bytes_of, begins_with_of, numbers_in, of_one, of_two, of_three};
 
-use crate::number::{Number, number_of};
+use crate::number::number_of;
 use crate::search::first_at;
 
 // Fields that are one, two or three numbers and nothing else.
@@ -18,84 +18,72 @@ pub enum Numbers {
 pub fn same_bytes(a: &[u8], b: &[u8]) -> bool
     ensures { result ≡ same_bytes_of a.now b.now }
 {
-    if a.len() != b.len() {
-        return false;
-    }
-    let mut i = 0;
-    while i < a.len() {
-        if a[i] != b[i] {
-            return false;
-        }
-        i += 1;
-    }
-    true
+    a == b
 }
 
 // The line begins with these bytes.
 pub fn begins_with(bytes: &[u8], line: &[u8]) -> bool
     ensures { result ≡ begins_with_of bytes.now line.now }
 {
-    let n = bytes.len();
-    if line.len() < n {
-        return false;
-    }
-    same_bytes(&line[..n], bytes)
+    line.starts_with(bytes)
 }
 
-fn one(a: Number) -> Numbers
+#[tactic(auto, unfolding(crate::specs::Fields::of_one))]
+fn one(a: Option<u32>) -> Numbers
     ensures { result ≡ of_one a }
 {
     match a {
-        Number::Value(x) => Numbers::One(x),
-        Number::NoNumber => Numbers::Nothing,
+        Some(x) => Numbers::One(x),
+        None => Numbers::Nothing,
     }
 }
 
-fn two(a: Number, b: Number) -> Numbers
+#[tactic(auto, unfolding(crate::specs::Fields::of_two))]
+fn two(a: Option<u32>, b: Option<u32>) -> Numbers
     ensures { result ≡ of_two a b }
 {
-    let Number::Value(x) = a else {
-        return Numbers::Nothing;
-    };
-    match b {
-        Number::Value(y) => Numbers::Two(x, y),
-        Number::NoNumber => Numbers::Nothing,
+    match (a, b) {
+        (Some(x), Some(y)) => Numbers::Two(x, y),
+        _ => Numbers::Nothing,
     }
 }
 
-fn three(a: Number, b: Number, c: Number) -> Numbers
+#[tactic(auto, unfolding(crate::specs::Fields::of_three))]
+fn three(a: Option<u32>, b: Option<u32>, c: Option<u32>) -> Numbers
     ensures { result ≡ of_three a b c }
 {
-    let Number::Value(x) = a else {
-        return Numbers::Nothing;
-    };
-    let Number::Value(y) = b else {
-        return Numbers::Nothing;
-    };
-    match c {
-        Number::Value(z) => Numbers::Three(x, y, z),
-        Number::NoNumber => Numbers::Nothing,
+    match (a, b, c) {
+        (Some(x), Some(y), Some(z)) => Numbers::Three(x, y, z),
+        _ => Numbers::Nothing,
     }
+}
+
+// The first field of a line, and what stands behind its separator, where it has one.
+fn first_field(line: &[u8], sep: u8) -> (&[u8], Option<&[u8]>)
+    ensures { MatchOption result.1 (fields sep line.now ≡ result.0.now ∷ []) (λ rest. fields sep line.now ≡ result.0.now ∷ fields sep rest.now) }
+{
+    let end = first_at(sep, line);
+    if line.len() <= end {
+        return (line, None);
+    }
+    (&line[..end], Some(&line[end + 1..]))
 }
 
 // The numbers of a line whose fields are parted by sep.
 pub fn numbers_of(line: &[u8], sep: u8) -> Numbers
     ensures { result ≡ numbers_in (fields sep line.now) }
 {
-    let i = first_at(sep, line);
-    if line.len() <= i {
-        return one(number_of(line));
-    }
-    let first = number_of(&line[..i]);
-    let behind = &line[i + 1..];
-    let j = first_at(sep, behind);
-    if behind.len() <= j {
-        return two(first, number_of(behind));
-    }
-    let second = number_of(&behind[..j]);
-    let last = &behind[j + 1..];
-    if first_at(sep, last) < last.len() {
+    let (first, behind_first) = first_field(line, sep);
+    let Some(rest) = behind_first else {
+        return one(number_of(first));
+    };
+    let (second, behind_second) = first_field(rest, sep);
+    let Some(rest) = behind_second else {
+        return two(number_of(first), number_of(second));
+    };
+    let (third, behind_third) = first_field(rest, sep);
+    if let Some(_) = behind_third {
         return Numbers::Nothing;
     }
-    three(first, second, number_of(last))
+    three(number_of(first), number_of(second), number_of(third))
 }

@@ -14,25 +14,23 @@ pub enum NetworkLine {
     Other,
 }
 
+#[tactic(auto, unfolding(crate::specs::NetworkText::problem_in))]
 fn problem_of(numbers: Numbers) -> NetworkLine
     ensures { result ≡ problem_in numbers }
 {
     match numbers {
-        Numbers::Nothing => NetworkLine::Other,
-        Numbers::One(_) => NetworkLine::Other,
         Numbers::Two(nodes, arcs) => NetworkLine::Problem(nodes, arcs),
-        Numbers::Three(_, _, _) => NetworkLine::Other,
+        _ => NetworkLine::Other,
     }
 }
 
+#[tactic(auto, unfolding(crate::specs::NetworkText::arc_in))]
 fn arc_of(numbers: Numbers) -> NetworkLine
     ensures { result ≡ arc_in numbers }
 {
     match numbers {
-        Numbers::Nothing => NetworkLine::Other,
-        Numbers::One(_) => NetworkLine::Other,
-        Numbers::Two(_, _) => NetworkLine::Other,
         Numbers::Three(from, to, weight) => NetworkLine::Arc(from, to, weight),
+        _ => NetworkLine::Other,
     }
 }
 
@@ -40,17 +38,14 @@ fn arc_of(numbers: Numbers) -> NetworkLine
 pub fn network_line_of(line: &[u8]) -> NetworkLine
     ensures { result ≡ network_line_text line.now }
 {
-    if same_bytes(line, b"c") {
+    if same_bytes(line, b"c") || begins_with(b"c ", line) {
         return NetworkLine::Remark;
     }
-    if begins_with(b"c ", line) {
-        return NetworkLine::Remark;
+    if let Some(numbers) = line.strip_prefix(b"p sp ") {
+        return problem_of(numbers_of(numbers, b' '));
     }
-    if begins_with(b"p sp ", line) {
-        return problem_of(numbers_of(&line[5..], b' '));
-    }
-    if begins_with(b"a ", line) {
-        return arc_of(numbers_of(&line[2..], b' '));
+    if let Some(numbers) = line.strip_prefix(b"a ") {
+        return arc_of(numbers_of(numbers, b' '));
     }
     NetworkLine::Other
 }

@@ -1,4 +1,6 @@
 -- The thresholds of an accepted text pass the check that later functions make.
+use Rattle.model.specs.Refusal.{accepted}
+use Rattle.model.specs.declared.refusal.Fault.TheVariants.{BadThresholds, NoHeader, NotRising}
 use mathlib.Core.Bool.{true}
 use mathlib.Core.List.{List, [], ◌∷◌, ◌++◌}
 use mathlib.Core.Logic.{⊎_elim}
@@ -15,10 +17,8 @@ use Rattle.model.proofs.Laws.Checks.{thresholds-accepts}
 use Rattle.model.proofs.Laws.Refusal.{both-accepted}
 use Rattle.model.specs.Checks.{thresholds_check}
 use Rattle.model.specs.Limits.{max_thresholds}
-use Rattle.model.specs.Refusal.{bad_thresholds, not_rising}
-use Rattle.model.specs.declared.check.Check.TheVariants.{Accepted}
 use Rattle.text.specs.Lines.{csv_lines}
-use Rattle.text.specs.Reading.{taken, Outcome, read, refused_at, read_lines, no_header, length_check}
+use Rattle.text.specs.Reading.{taken, Outcome, read, refused_at, read_lines, length_check}
 use Rattle.text.specs.ThresholdText.{ThresholdState, before_header, values, above_last, take_threshold_of, take_number_of, threshold_step, threshold_end, threshold_lines}
 use Rattle.text.specs.declared.fields.Numbers.{Numbers}
 use Rattle.text.specs.declared.fields.Numbers.TheVariants.{Nothing, One, Two, Three}
@@ -71,8 +71,8 @@ number-keeps : (xs : List ℕ) (numbers : Numbers) (s' : ThresholdState) → Ris
 unfolding take_number_of take_threshold_of
 number-keeps xs Nothing s' g e = absurd (let z : ◌≡◌ {A = ℕ} 0 1 = cc in omega arith)
 number-keeps xs (One t) s' g e =
-    let one = passed bad_thresholds (ltb (length xs) max_thresholds) e in
-    let two = passed not_rising (above_last xs t) one.1 in
+    let one = passed BadThresholds (ltb (length xs) max_thresholds) e in
+    let two = passed NotRising (above_last xs t) one.1 in
     let is : values (xs ++ (t ∷ [])) ≡ s' = cc two.1 in
     rw (← is) (some (rising-more xs t g (ltb-true _ _ one.0) two.0))
 number-keeps xs (Two x y) s' g e = absurd (let z : ◌≡◌ {A = ℕ} 0 1 = cc in omega arith)
@@ -80,7 +80,7 @@ number-keeps xs (Three x y z) s' g e = absurd (let z : ◌≡◌ {A = ℕ} 0 1 =
 
 line-keeps : (s : ThresholdState) (line : List ℕ) (s' : ThresholdState) → StateRising s → threshold_step s line ≡ taken s' → StateRising s'
 unfolding threshold_step
-line-keeps before_header line s' g e = let is : values [] ≡ s' = cc (passed no_header _ e).1 in rw (← is) (some none-rise)
+line-keeps before_header line s' g e = let is : values [] ≡ s' = cc (passed NoHeader _ e).1 in rw (← is) (some none-rise)
 line-keeps (values xs) line s' (some g) e = number-keeps xs _ s' g e
 
 -- so the thresholds of a text that is read rise, and there is one at least
@@ -95,15 +95,15 @@ read-rising lines all e =
     by (read (values (t ∷ ts))) good f =
         let is : t ∷ ts ≡ all = cc in
         rw (← is) (rising-of (good (values (t ∷ ts)) refl), omega arith)
-    by (refused_at number place) good f = absurd (let z : ◌≡◌ {A = ℕ} 0 1 = cc in omega arith)
+    by (refused_at fault place) good f = absurd (let z : ◌≡◌ {A = ℕ} 0 1 = cc in omega arith)
 
 -- The thresholds of a text that is accepted pass 18 and 19.
-pub rising-pass : (xs : List ℕ) → Rising xs → 1 ≤ length xs → thresholds_check xs ≡ Accepted
+pub rising-pass : (xs : List ℕ) → Rising xs → 1 ≤ length xs → thresholds_check xs ≡ accepted
 rising-pass xs g one =
     thresholds-accepts xs
     (record { some = one; few = g.few; rising = λ k h. ltb-true (get_or xs k 0) (get_or xs (suc k) 0) (g.above (suc k) (omega arith) h) })
 
-pub thresholds_pass : (bytes : List ℕ) → threshold_file_check bytes ≡ Accepted → thresholds_check (text_thresholds bytes) ≡ Accepted
+pub thresholds_pass : (bytes : List ℕ) → threshold_file_check bytes ≡ accepted → thresholds_check (text_thresholds bytes) ≡ accepted
 unfolding threshold_file_check text_thresholds
 thresholds_pass bytes e =
     let lines = (both-accepted (length_check bytes) _ e).1 in

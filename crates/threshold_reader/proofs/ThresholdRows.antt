@@ -1,4 +1,8 @@
 -- The rows of a threshold text, line by line into a list.
+use Rattle.std.specs.Prelude.{Result, Ok, Err}
+use Rattle.model.specs.declared.refusal.Fault.{Fault}
+use Rattle.model.specs.declared.refusal.Refusal.{Refusal}
+use Rattle.model.specs.declared.refusal.Fault.TheVariants.{BadThresholds, NoHeader}
 use mathlib.Core.Bool.{false}
 use mathlib.Core.List.{List, [], ◌∷◌}
 use mathlib.Core.Path.{◌≡◌, refl, sym, ◌∙◌}
@@ -9,21 +13,16 @@ use borrow.Author.Tests.{ltb-true}
 use lib.ListN.{length, take}
 use lib.Seq.{length-take-le}
 use Rattle.model.specs.Limits.{max_thresholds}
-use Rattle.model.specs.Refusal.{bad_thresholds}
 use Rattle.text.specs.Fields.{same_bytes_of}
 use Rattle.text.specs.Lines.{csv_lines}
 use Rattle.text.proofs.Laws.Lines.{NextLine}
-use Rattle.text.specs.Reading.{taken, refused, read, refused_at, read_lines, require, no_header}
+use Rattle.text.specs.Reading.{taken, refused, read, refused_at, read_lines, require}
 use Rattle.text.specs.ThresholdText.{ThresholdState, before_header, values, take_threshold_of, take_number_of, threshold_step, threshold_end, threshold_lines, threshold_header}
 use Rattle.text.specs.declared.fields.Numbers.{Numbers}
 use Rattle.text.specs.declared.fields.Numbers.TheVariants.{Nothing, One, Two, Three}
 use Rattle.reading.specs.Header.{is_headed}
 use Rattle.reading.proofs.Headed.{RowsAt}
 use Rattle.reading.specs.Answers.{entries}
-use Rattle.reading.specs.declared.answers.ReadList.{ReadList}
-use Rattle.reading.specs.declared.answers.ReadList.TheVariants as list-answer
-use Rattle.reading.specs.declared.line.LineRead.{LineRead}
-use Rattle.reading.specs.declared.line.LineRead.TheVariants as line-answer
 use Rattle.reading.proofs.Headed.{no_lines, rows_left, no_rows, one-line-more, rows_are}
 use Rattle.reading.proofs.Progress.{Progress, rest, begins, goes_on, stops, all_read, end-place}
 use Rattle.reading.proofs.Require.{passed}
@@ -33,7 +32,7 @@ use Rattle.threshold_reader.specs.Steps.{thresholds_after, thresholds_in, Thresh
 pub taken-within : (before : List ℕ) (numbers : Numbers) {s : ThresholdState} → take_number_of before numbers ≡ taken s → length before < max_thresholds
 unfolding take_number_of take_threshold_of
 taken-within before Nothing e = absurd (let z : ◌≡◌ {A = ℕ} 0 1 = cc in omega arith)
-taken-within before (One t) e = ltb-true _ _ (passed bad_thresholds _ e).0
+taken-within before (One t) e = ltb-true _ _ (passed BadThresholds _ e).0
 taken-within before (Two x y) e = absurd (let z : ◌≡◌ {A = ℕ} 0 1 = cc in omega arith)
 taken-within before (Three x y z) e = absurd (let z : ◌≡◌ {A = ℕ} 0 1 = cc in omega arith)
 
@@ -47,9 +46,9 @@ pub rows-begin : (rows list : List ℕ) → max_thresholds ≤ length list → T
 rows-begin rows list room = record { few = omega arith; room = room; progress = begins csv_lines threshold_step 2 (values []) rows }
 
 -- A row, from what a line's step answers.
-module _ {rows list list' : List ℕ} {at count end onward : ℕ} {r : LineRead} (t : ThresholdsSoFar rows list at count) (h : at < length rows) (n : NextLine csv_lines (rest rows at) end onward) (e : threshold_step (values (take count list)) (take end (rest rows at)) ≡ thresholds_after r count list') where
+module _ {rows list list' : List ℕ} {at count end onward : ℕ} {r : Result (Unit {0}) Fault} (t : ThresholdsSoFar rows list at count) (h : at < length rows) (n : NextLine csv_lines (rest rows at) end onward) (e : threshold_step (values (take count list)) (take end (rest rows at)) ≡ thresholds_after r count list') where
   -- it is taken
-  pub row-taken : r ≡ line-answer.Taken → length list' ≡ length list → ThresholdsSoFar rows list' (at + onward) (count + 1)
+  pub row-taken : r ≡ Ok tt → length list' ≡ length list → ThresholdsSoFar rows list' (at + onward) (count + 1)
   unfolding thresholds_after threshold_step
   row-taken is long =
       let after : threshold_step (values (take count list)) (take end (rest rows at)) ≡ taken (values (take (suc count) list')) = e ∙ rw is in
@@ -61,16 +60,16 @@ module _ {rows list list' : List ℕ} {at count end onward : ℕ} {r : LineRead}
       }
 
   -- it is refused
-  pub row-refused : {number : ℕ} → r ≡ line-answer.Refused number → ThresholdRows rows (list-answer.Refused number (count + 2)) list'
+  pub row-refused : {fault : Fault} → r ≡ Err fault → ThresholdRows rows (Err (record { fault = fault; place = count + 2 })) list'
   unfolding thresholds_after thresholds_in threshold_end entries
-  row-refused {number} is =
+  row-refused {fault} is =
       record {
-        outcome = let after : threshold_step (values (take count list)) (take end (rest rows at)) ≡ refused number = e ∙ rw is in rw (stops t.progress h n after);
+        outcome = let after : threshold_step (values (take count list)) (take end (rest rows at)) ≡ refused fault = e ∙ rw is in rw (stops t.progress h n after);
         few = omega arith;
       }
 
 -- at the end some thresholds are asked for
-none_read : (place : ℕ) (list : List ℕ) (count : ℕ) → count ≡ 0 → threshold_end place (read (values (take count list))) ≡ refused_at bad_thresholds place
+none_read : (place : ℕ) (list : List ℕ) (count : ℕ) → count ≡ 0 → threshold_end place (read (values (take count list))) ≡ refused_at BadThresholds place
 unfolding threshold_end
 none_read place list count e = rw e
 
@@ -86,33 +85,33 @@ module _ {rows list : List ℕ} {at count : ℕ} (t : ThresholdsSoFar rows list 
       let place : suc (suc (length (csv_lines rows))) ≡ count + 2 = omega (arith, end-place t.progress no_lines end) in
       rw (place, all_read t.progress no_lines end)
 
-  pub rows_none : count ≡ 0 → ThresholdRows rows (list-answer.Refused bad_thresholds (count + 2)) list
+  pub rows_none : count ≡ 0 → ThresholdRows rows (Err (record { fault = BadThresholds; place = 2 })) list
   unfolding thresholds_in entries
-  rows_none e = record { outcome = at-end ∙ none_read (count + 2) list count e; few = omega arith }
+  rows_none e = record { outcome = at-end ∙ none_read (count + 2) list count e ∙ rw e; few = omega arith }
 
-  pub rows-some : (count ≡ 0 → ⊥) → ThresholdRows rows (list-answer.Read count) list
+  pub rows-some : (count ≡ 0 → ⊥) → ThresholdRows rows (Ok count) list
   unfolding thresholds_in entries
   rows-some some =
       let long : length (take count list) ≡ count = length-take-le count list (omega (arith, t.few, t.room)) in
       record { outcome = at-end ∙ some_read (count + 2) (take count list) (λ e. some (sym long ∙ e)); few = t.few }
 
 -- the first step asks for the header
-asks : (line : List ℕ) → threshold_step before_header line ≡ require (same_bytes_of line threshold_header) no_header (taken (values []))
+asks : (line : List ℕ) → threshold_step before_header line ≡ require (same_bytes_of line threshold_header) NoHeader (taken (values []))
 unfolding threshold_step
 asks line = refl
 
-no-header : (lines : List (List ℕ)) → is_headed threshold_header lines ≡ false → threshold_lines lines ≡ refused_at no_header 1
+no-header : (lines : List (List ℕ)) → is_headed threshold_header lines ≡ false → threshold_lines lines ≡ refused_at NoHeader 1
 unfolding threshold_lines threshold_end read_lines
 no-header [] e = refl
 no-header (line ∷ more) e = rw (no_rows threshold_header threshold_step before_header (values []) asks line more e)
 
 -- a text with no header is refused
-pub text-refused : (bytes list : List ℕ) → is_headed threshold_header (csv_lines bytes) ≡ false → ThresholdsTaken bytes (list-answer.Refused no_header 1) list
+pub text-refused : (bytes list : List ℕ) → is_headed threshold_header (csv_lines bytes) ≡ false → ThresholdsTaken bytes (Err (record { fault = NoHeader; place = 1 })) list
 unfolding thresholds_in entries
 text-refused bytes list e = record { outcome = no-header (csv_lines bytes) e; few = omega arith }
 
 -- a text comes to what its rows come to
-pub text-taken : {bytes list : List ℕ} {n : ℕ} {r : ReadList} → RowsAt threshold_header bytes n → ThresholdRows (rest bytes n) r list → ThresholdsTaken bytes r list
+pub text-taken : {bytes list : List ℕ} {n : ℕ} {r : Result ℕ Refusal} → RowsAt threshold_header bytes n → ThresholdRows (rest bytes n) r list → ThresholdsTaken bytes r list
 unfolding threshold_lines
 text-taken {bytes} h t =
     record {

@@ -1,4 +1,5 @@
 -- The steps of reading thresholds into a list.
+use Rattle.model.specs.declared.refusal.Fault.TheVariants.{BadThresholds, NotRising}
 use mathlib.Core.Bool.{true, false}
 use mathlib.Core.List.{List, [], ◌∷◌, ◌++◌}
 use mathlib.Core.Path.{◌≡◌, refl, sym, ap, ◌∙◌}
@@ -9,7 +10,6 @@ use lib.Dec.{ltb}
 use lib.ListN.{length, take, set, get_or}
 use lib.Seq.{take-suc, take-suc-set, length-take-le}
 use Rattle.model.specs.Limits.{max_thresholds}
-use Rattle.model.specs.Refusal.{bad_thresholds, not_rising}
 use Rattle.text.specs.Reading.{refused, taken}
 use Rattle.text.specs.ThresholdText.{above_last, take_threshold_of, values}
 use Rattle.reading.proofs.Require.{holds, fails}
@@ -35,18 +35,18 @@ above-some list (suc k) t some fits =
 -- The first count entries of a list hold the thresholds so far.
 module _ (list : List ℕ) (count t : ℕ) (fits : count ≤ length list) where
   -- 18
-  pub one-too-many : max_thresholds ≤ count → take_threshold_of (take count list) t ≡ refused bad_thresholds
+  pub one-too-many : max_thresholds ≤ count → take_threshold_of (take count list) t ≡ refused BadThresholds
   unfolding take_threshold_of
-  one-too-many h = fails bad_thresholds _ (rw (length-take-le count list fits) (le-ltb _ _ h))
+  one-too-many h = fails BadThresholds _ (rw (length-take-le count list fits) (le-ltb _ _ h))
 
   -- 19
-  pub not-above : count < max_thresholds → above_last (take count list) t ≡ false → take_threshold_of (take count list) t ≡ refused not_rising
+  pub not-above : count < max_thresholds → above_last (take count list) t ≡ false → take_threshold_of (take count list) t ≡ refused NotRising
   unfolding take_threshold_of
-  not-above h e = holds bad_thresholds (rw (length-take-le count list fits) (lt-ltb _ _ h)) (fails not_rising _ e)
+  not-above h e = holds BadThresholds (rw (length-take-le count list fits) (lt-ltb _ _ h)) (fails NotRising _ e)
 
   -- one more, stored behind the others
   pub threshold-taken : count < max_thresholds → count < length list → above_last (take count list) t ≡ true → take_threshold_of (take count list) t ≡ taken (values (take (suc count) (set list count t)))
   unfolding take_threshold_of
   threshold-taken h room e =
-      holds bad_thresholds (rw (length-take-le count list fits) (lt-ltb _ _ h))
-      (holds not_rising e (rw (take-suc-set list count t room)))
+      holds BadThresholds (rw (length-take-le count list fits) (lt-ltb _ _ h))
+      (holds NotRising e (rw (take-suc-set list count t room)))

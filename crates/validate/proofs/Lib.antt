@@ -1,5 +1,4 @@
 -- Lemmas for the proofs of this crate's functions.
 
-pub mod Made
 pub mod Over
 pub mod SetSizes

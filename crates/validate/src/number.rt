@@ -3,26 +3,32 @@ ghost use Rattle.std.specs.Prelude.{◌≡◌, leb, length, get_or, pred, ◌≤
 ghost use Rattle.model.specs.Refusal.{is_between_of};
 ghost use Rattle.model.specs.Checks.{same_length_of, room_check};
 
-use model::Check;
+use model::{Fault, Refusal};
 
 // 2: two lists that belong together differ in length.
-pub(crate) fn same_length(one: &[u32], other: &[u32]) -> Check
+pub fn same_length(one: &[u32], other: &[u32]) -> Result<(), Refusal>
     ensures { result ≡ same_length_of one.now other.now }
 {
     if one.len() == other.len() {
-        return Check::Accepted;
+        return Ok(());
     }
-    Check::Refused(Check::LISTS_DIFFER, 0)
+    Err(Refusal {
+        fault: Fault::ListsDiffer,
+        place: 0,
+    })
 }
 
 // 2: the answer list is too short for so many entries.
-pub fn check_room(count: usize, answers: &[u32]) -> Check
+pub fn check_room(count: usize, answers: &[u32]) -> Result<(), Refusal>
     ensures { result ≡ room_check count answers.now }
 {
     if answers.len() < count {
-        return Check::Refused(Check::LISTS_DIFFER, 0);
+        return Err(Refusal {
+            fault: Fault::ListsDiffer,
+            place: 0,
+        });
     }
-    Check::Accepted
+    Ok(())
 }
 
 // Nodes and edges are numbered from 1: the number names one of so many.

@@ -1,4 +1,7 @@
 -- The answer lists: the stored numbers of all events are those of the definition, and what stands behind them is kept.
+use Rattle.model.specs.declared.refusal.Refusal.{Refusal}
+use Rattle.std.specs.Prelude.{Err}
+use Rattle.model.specs.Refusal.{Check, accepted}
 use mathlib.Core.Bool.{cond}
 use mathlib.Core.List.{List, [], ◌∷◌, ◌++◌}
 use mathlib.Core.Path.{◌≡◌, refl, sym, ap, ◌∙◌}
@@ -14,8 +17,6 @@ use Rattle.model.specs.Answer.{written}
 use Rattle.model.specs.Events.{having}
 use Rattle.model.specs.Location.{Side, at_first, at_second}
 use Rattle.model.specs.Network.{Network, size}
-use Rattle.model.specs.declared.check.Check.{Check}
-use Rattle.model.specs.declared.check.Check.TheVariants.{Accepted, Refused}
 use Rattle.count_augmentation.specs.Augmented.{stored, augmented, augment_check, Augmented}
 use Rattle.count_augmentation.specs.Events.{EventsStored}
 use Rattle.edge_pair.specs.Offsets.{OnEdge}
@@ -71,17 +72,17 @@ front_length : (n : ℕ) (l front : List ℕ) → n ≤ length l → length (fro
 front_length n l front h e = omega (arith, simp (length-append, length-drop) at e)
 
 -- the list when the function returns
-refused-kept : {r : Check} {number place : ℕ} (answers old : List ℕ) → r ≡ Refused number place → old ≡ written r answers old
+refused-kept : {r : Check} {x : Refusal} (answers old : List ℕ) → r ≡ Err x → old ≡ written r answers old
 unfolding written
 refused-kept answers old e = rw e refl
 
-accepted-front : {r : Check} (answers old front : List ℕ) (n : ℕ) → r ≡ Accepted → front ≡ answers → length front ≡ n → front ++ drop n old ≡ written r answers old
+accepted-front : {r : Check} (answers old front : List ℕ) (n : ℕ) → r ≡ accepted → front ≡ answers → length front ≡ n → front ++ drop n old ≡ written r answers old
 unfolding written
 accepted-front answers old front n e same long = rw (e, ← same, long) refl
 
 module _ {net : Network} {es xs near_first near-second : List ℕ} {r : Check} (verdict : r ≡ augment_check net es xs near_first near-second) where
   -- on refusal both lists are kept
-  pub augment-refused : {number place : ℕ} → r ≡ Refused number place → Augmented net es xs near_first near-second r near_first near-second
+  pub augment-refused : {x : Refusal} → r ≡ Err x → Augmented net es xs near_first near-second r near_first near-second
   augment-refused told =
       record {
         verdict = verdict;
@@ -90,7 +91,7 @@ module _ {net : Network} {es xs near_first near-second : List ℕ} {r : Check} (
       }
 
   -- on acceptance the stored numbers stand in front of what stood behind them
-  pub augment-answered : r ≡ Accepted → AugmentAccepted net es xs near_first near-second → (first second : List ℕ) → length (first ++ drop (length es) near_first) ≡ length near_first → length (second ++ drop (length es) near-second) ≡ length near-second → EventsStored es xs (length es) first second → Augmented net es xs near_first near-second r (first ++ drop (length es) near_first) (second ++ drop (length es) near-second)
+  pub augment-answered : r ≡ accepted → AugmentAccepted net es xs near_first near-second → (first second : List ℕ) → length (first ++ drop (length es) near_first) ≡ length near_first → length (second ++ drop (length es) near-second) ≡ length near-second → EventsStored es xs (length es) first second → Augmented net es xs near_first near-second r (first ++ drop (length es) near_first) (second ++ drop (length es) near-second)
   augment-answered told ok first second hf hs numbers =
       let first-long = front_length (length es) near_first first ok.first_room_of hf in
       let second-long = front_length (length es) near-second second ok.second_room_of hs in

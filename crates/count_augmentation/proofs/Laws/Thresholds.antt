@@ -3,34 +3,17 @@ use mathlib.Core.Bool.{Bool, true, false}
 use mathlib.Core.List.{List}
 use mathlib.Core.Path.{◌≡◌, sym, ap, ◌∙◌}
 use Prim.Native.Nat.{ℕ, suc, ◌+◌, ◌-◌, ◌*◌, ◌≤◌, ◌<◌}
-use native.Mathlib.Decide.{ℕ_discrete, dec_le}
+use native.Mathlib.Decide.{dec_le}
 use native.Mathlib.Omega.{arith}
 use lib.ListN.{length, get_or}
 use Rattle.model.specs.Location.{at_first, at_second}
 use Rattle.edge_pair.proofs.Laws.Totals.{Running, running-from, running-next, running-rest}
-use Rattle.edge_pair.specs.Offsets.{Ordered}
 use Rattle.edge_pair.specs.Totals.{Added, Changed}
 use Rattle.edge_pair.specs.Ways.{to_end_of}
 use Rattle.edge_pair.specs.declared.edges.EdgePair.{EdgePair}
 use Rattle.count_augmentation.specs.LookUp.{stored_last, looked_part, looked_up_by}
-use Rattle.count_augmentation.specs.Thresholds.{NotBelow, Parted, whole_from_of, some_from_of, Spread}
+use Rattle.count_augmentation.specs.Thresholds.{Parted, whole_from_of, some_from_of, Spread}
 use Rattle.count_augmentation.proofs.Laws.Reach.{whole-up, part_up, nothing-up}
-
--- a walk down: one place more, a number that is below before it, and none before it
-pub one_more : {ns : List ℕ} {limit place : ℕ} → NotBelow ns limit place → 0 < place → limit ≤ get_or ns (place - 1) 0 → NotBelow ns limit (place - 1)
-one_more {ns} {limit} {place} from some h =
-    record { within = omega (arith, from.within); after = λ k l m. go k l m (ℕ_discrete k (place - 1)) }
-  where
-    go : (k : ℕ) → place - 1 ≤ k → k < length ns → Dec (k ≡ place - 1) → limit ≤ get_or ns k 0
-    go k l m (yes e) = rw e h
-    go k l m (no e) = from.after k (omega arith) m
-
-pub parted-here : {ns : List ℕ} {limit place : ℕ} → Ordered ns → NotBelow ns limit place → get_or ns (place - 1) 0 < limit → Parted ns limit place
-parted-here {place = place} rising from h =
-    record { not_below = from; before = λ k l. omega (arith, rising.in_order k (place - 1) (omega arith) (omega (arith, from.within))) }
-
-pub parted-first : {ns : List ℕ} {limit place : ℕ} → NotBelow ns limit place → place ≤ 0 → Parted ns limit place
-parted-first from h = record { not_below = from; before = λ k l. absurd (omega arith) }
 
 -- from that threshold on the reaches from both ends cover an edge of length q, and below it they do not
 covers : (q u v t : ℕ) → whole_from_of q u v ≤ t → q < (suc t - u) + (suc t - v)

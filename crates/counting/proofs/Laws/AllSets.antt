@@ -1,4 +1,7 @@
 -- The loop over the sets: what stands fixed while it runs, and the row that each turn writes.
+use Rattle.model.specs.declared.refusal.Refusal.{Refusal}
+use Rattle.std.specs.Prelude.{Err}
+use Rattle.model.specs.Refusal.{Check, accepted}
 use Rattle.std.proofs.Common.{◌≡◌, ℕ, suc, ◌+◌, ◌*◌, ◌<◌, ◌≤◌, List, length, get_or, sym, refl, ap, ◌∙◌, ⊎_elim, mul-le-mul_right, suc-mul, eq-or-lt_of_le, add-one, arith}
 use borrow.Rule.Slice.PartMut.{put_mid}
 use lib.ListN.{length-map}
@@ -8,8 +11,6 @@ use Rattle.model.proofs.Laws.Pieces.{part_length, part_at}
 use Rattle.model.specs.Events.{events, greatest_set_of, set_count}
 use Rattle.model.specs.Limits.{max_events, max_set}
 use Rattle.model.specs.Network.{Network}
-use Rattle.model.specs.declared.check.Check.{Check}
-use Rattle.model.specs.declared.check.Check.TheVariants.{Accepted, Refused}
 use Rattle.validate.proofs.SetSizes.{greatest-small}
 use Rattle.edge_pair.specs.Offsets.{Ordered}
 use Rattle.prepare.proofs.Laws.CountRows.{rows-begin, row_written, rows_written, table-rows}
@@ -57,11 +58,6 @@ set-written {net} {es} {xs} {bounds} {set_runs_of} {ts} {old} {answers} {s} {sta
           row_written (set_row net es xs bounds set_runs_of ts) (length ts) (set-row-length net es xs bounds set_runs_of ts) old s start k answers row wide w.rows (e ∙ rw (first, last, add-one s) refl);
     }
 
-pub sets-written : {net : Network} {es xs bounds set_runs_of ts old answers : List ℕ} {s start count : ℕ} → SetsWritten net es xs bounds set_runs_of ts old s start answers → s ≡ count → RowsAfter net es xs bounds set_runs_of ts count old answers
-sets-written {ts = ts} w e =
-    let there = w.rows.place in
-    record { rows = rw (← e, ← there) w.rows }
-
 -- what a set's row asks
 module _ {net : Network} {es xs bounds set_runs_of ts : List ℕ} {count runs : ℕ} (ready : SetsReady net es xs bounds set_runs_of ts count runs) {s r q : ℕ} (h : s < count) (first : r ≡ get_or set_runs_of s 0) (last : q ≡ get_or set_runs_of (s + 1) 0) where
   pub runs-rise : r ≤ q
@@ -81,7 +77,7 @@ pub record Begun (net : Network) (sets es xs ts : List ℕ) (room : ℕ) (edges 
   pub few_sets : count ≤ suc max_set
 
 -- what the verdict and the greatest set number tell
-pub begun : {net : Network} {sets es xs ts : List ℕ} {room : ℕ} {r : Check} {edges offsets bounds set_runs_of table : List ℕ} {g : ℕ} → Ready net sets es xs ts room r edges offsets bounds set_runs_of table → r ≡ Accepted → g ≡ greatest_set_of sets → Begun net sets es xs ts room edges offsets bounds set_runs_of table (g + 1)
+pub begun : {net : Network} {sets es xs ts : List ℕ} {room : ℕ} {r : Check} {edges offsets bounds set_runs_of table : List ℕ} {g : ℕ} → Ready net sets es xs ts room r edges offsets bounds set_runs_of table → r ≡ accepted → g ≡ greatest_set_of sets → Begun net sets es xs ts room edges offsets bounds set_runs_of table (g + 1)
 unfolding set_count
 begun {net} {sets} {es} {xs} {ts} {room} {g = g} ready told greatest =
     let ok = sym ready.verdict ∙ told in
@@ -162,12 +158,12 @@ pub room_for : {net : Network} {sets es xs ts : List ℕ} {room : ℕ} {edges of
 room_for b = let many = b.count-is in rw many b.accepted.roomy
 
 -- on refusal the answers are kept
-pub refused-answered : {net : Network} {sets es xs ts old : List ℕ} {r : Check} {edges offsets bounds set_runs_of table : List ℕ} {number place : ℕ} → Ready net sets es xs ts (length old) r edges offsets bounds set_runs_of table → r ≡ Refused number place → CountsAnswered net sets es xs ts old r old
+pub refused-answered : {net : Network} {sets es xs ts old : List ℕ} {r : Check} {edges offsets bounds set_runs_of table : List ℕ} {x : Refusal} → Ready net sets es xs ts (length old) r edges offsets bounds set_runs_of table → r ≡ Err x → CountsAnswered net sets es xs ts old r old
 refused-answered {net} {sets} {es} {xs} {ts} {old} ready told =
     record { verdict = ready.verdict; after = written-refused (count_table net sets (events es xs) ts) old (sym ready.verdict ∙ told) }
 
 -- on acceptance all rows are written
-pub all-answered : {net : Network} {sets es xs ts old : List ℕ} {r : Check} {edges offsets bounds set_runs_of table : List ℕ} {count : ℕ} {answers : List ℕ} → Begun net sets es xs ts (length old) edges offsets bounds set_runs_of table count → Ready net sets es xs ts (length old) r edges offsets bounds set_runs_of table → r ≡ Accepted → RowsAfter net edges offsets bounds set_runs_of ts count old answers → CountsAnswered net sets es xs ts old r answers
+pub all-answered : {net : Network} {sets es xs ts old : List ℕ} {r : Check} {edges offsets bounds set_runs_of table : List ℕ} {count : ℕ} {answers : List ℕ} → Begun net sets es xs ts (length old) edges offsets bounds set_runs_of table count → Ready net sets es xs ts (length old) r edges offsets bounds set_runs_of table → r ≡ accepted → RowsAfter net edges offsets bounds set_runs_of ts count old answers → CountsAnswered net sets es xs ts old r answers
 unfolding set_row
 all-answered {net} {sets} {es} {xs} {ts} {old} {edges = edges} {offsets} {bounds} {set_runs_of} {count = count} {answers} b ready told w =
     let row : ℕ → List ℕ = set_row net edges offsets bounds set_runs_of ts in

@@ -47,9 +47,6 @@ module _ {net : Network} {es xs bounds ts : List ℕ} {own : Bool} {r : ℕ} whe
         added = added-as (λ k h. ap (λ (n : ℕ). each_pairs net es xs bounds own (get_or ts k 0) r (a - r) + n) (rw (e, f) refl) ∙ each_next net es xs bounds own r (get_or ts k 0) a so_far.low) (added_then so_far.added more);
       }
 
-  pub all-taken : {a q : ℕ} {old new : List ℕ} → EachTo net es xs bounds ts own r a old new → a ≡ q → Added (length ts) (λ k. each_pairs net es xs bounds own (get_or ts k 0) r (q - r)) old new
-  all-taken w e = rw (← e) w.added
-
 -- each run with itself, and twice with each earlier one
 module _ (net : Network) (es xs bounds : List ℕ) (t r : ℕ) where
   with_itself : (a : ℕ) → pairs_with net es xs bounds t (partners true r a) a (partners true a (suc a) - partners true r a) ≡ run_pairs net es xs bounds t a a

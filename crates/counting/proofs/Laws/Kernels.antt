@@ -1,5 +1,5 @@
 -- Two runs whose pairs all fall between two thresholds, and fewer totals than were promised.
-use Rattle.std.proofs.Common.{◌≡◌, ℕ, suc, ◌-◌, ◌*◌, ◌<◌, ◌≤◌, cond, leb, List, length, get_or, sym, ◌∙◌, arith, le-leb, leb-false}
+use Rattle.std.proofs.Common.{◌≡◌, ℕ, suc, ◌+◌, ◌-◌, ◌*◌, ◌<◌, ◌≤◌, cond, leb, List, length, get_or, sym, ◌∙◌, arith, le-leb, leb-false}
 use native.Mathlib.Decide.{dec_le}
 use borrow.Author.Tests.{lt-leb}
 use Rattle.edge_pair.proofs.Laws.Arrival.{none_below, all-within}
@@ -57,25 +57,21 @@ module _ (ts : List ℕ) (w : EdgePair) (near place : ℕ) (near-is : near ≡ s
   below : (n : ℕ) → n < length ts → n < place → get_or ts n 0 < shortest_route_of w
   below n h l = rw (← near-is) (leb-false near (get_or ts n 0) (sym (place_is n h) ∙ lt-leb place n l))
 
-  -- there is none
-  pub none-admits : length ts ≤ place → AllFrom ts w place
-  none-admits h = record { before = below; behind = λ n l from. absurd (omega arith) }
+  -- it is not below the greatest distance, or there is none
+  pub admits-all : Ordered ts → (far : ℕ) → far ≡ greatest_distance_of w → (place < length ts → far ≤ get_or ts place 0) → AllFrom ts w place
+  admits-all up far far-is here =
+      record {
+        before = below;
+        behind = λ n m l. rw (← far-is) (omega (arith, here (omega arith), up.in_order place n l m));
+      }
 
-  -- the next one is not below the greatest distance
-  pub parts_all : Ordered ts → place < length ts → (far : ℕ) → far ≡ greatest_distance_of w → (suc place < length ts → far ≤ get_or ts (suc place) 0) → PartedAt ts w place
+  -- the next one is not, or there is none
+  pub parts_all : Ordered ts → place < length ts → (far : ℕ) → far ≡ greatest_distance_of w → (place + 1 < length ts → far ≤ get_or ts (place + 1) 0) → PartedAt ts w place
   parts_all up h far far-is next =
       record {
         in_list = h;
         before = below;
-        behind = λ n m l. rw (← far-is) (omega (arith, next (omega arith), up.in_order (suc place) n l m));
-      }
-
-  -- it is not below that either
-  pub admits-all : Ordered ts → place < length ts → (far : ℕ) → far ≡ greatest_distance_of w → (t : ℕ) → t ≡ get_or ts place 0 → far ≤ t → AllFrom ts w place
-  admits-all up h far far-is t t-is l =
-      record {
-        before = below;
-        behind = λ n m from. rw (← far-is) (omega (arith, t-is, up.in_order place n from m));
+        behind = λ n m l. rw (← far-is) (omega (arith, next (omega arith), up.in_order (place + 1) n (omega arith) m));
       }
 
 -- what the thresholds are where no kernel is taken

@@ -1,5 +1,5 @@
 -- Entries doubled one after the other, a row of counts written from totals, and the totals of a set after each of its two turns.
-use Rattle.std.proofs.Common.{◌≡◌, ℕ, zero, suc, ◌+◌, ◌-◌, ◌*◌, ◌%◌, ◌<◌, ◌≤◌, min, eqb, List, map, length, get_or, set, replicate, sym, refl, ap, ◌∙◌, arith, length-set, get_or-set_other, get_or-set_same}
+use Rattle.std.proofs.Common.{◌≡◌, ℕ, zero, suc, ◌+◌, ◌-◌, ◌*◌, ◌%◌, ◌<◌, ◌≤◌, min, Bool, true, false, eqb, List, [], ◌∷◌, map, length, get_or, set, replicate, sym, refl, ap, ◌∙◌, arith, length-set, get_or-set_other, get_or-set_same}
 use native.Mathlib.Decide.{ℕ_discrete}
 use lib.ListN.{length-map, length-replicate}
 use Rattle.model.proofs.Laws.Counting.{sum-below-zero}
@@ -20,9 +20,6 @@ pub record DoubledTo (k : ℕ) (old new : List ℕ) : Type 0 where
   pub same_length : length new ≡ length old
   pub before : (j : ℕ) → j < k → Same64 (get_or new j 0) (get_or old j 0 + get_or old j 0)
   pub behind : (j : ℕ) → k ≤ j → get_or new j 0 ≡ get_or old j 0
-
-pub none-doubled : (l : List ℕ) → DoubledTo 0 l l
-none-doubled l = record { same_length = refl; before = λ j h. absurd (omega arith); behind = λ j h. refl }
 
 pub one-doubled : {k : ℕ} {old new : List ℕ} (v : ℕ) → DoubledTo k old new → k < length old → v ≡ (get_or new k 0 + get_or new k 0) % wrap → DoubledTo (k + 1) old (set new k v)
 one-doubled {k} {old} {new} v d h e =
@@ -98,11 +95,17 @@ no-turn =
       at = λ k h. same_of (sum-below-zero (suc k) _ (λ j l. cleared (suc max_thresholds) refl j));
     }
 
+-- the second of the two turns takes each run with itself
+pub which-turn : (turn : ℕ) → turn < 2 → get_or (false ∷ true ∷ []) turn false ≡ eqb turn 1
+which-turn zero h = refl
+which-turn (suc zero) h = refl
+which-turn (suc (suc turn)) h = absurd (omega arith)
+
 -- the row of a set
 module _ {net : Network} {es xs bounds ts : List ℕ} {r q turn : ℕ} {totals : List ℕ} (so_far : TurnsTo net es xs bounds ts r q turn totals) where
-  pub one-turn : {twice new : List ℕ} → length ts ≤ max_thresholds → turn < 2 → Doubled totals twice → Added (length ts) (λ k. each_pairs net es xs bounds (eqb turn 1) (get_or ts k 0) r (q - r)) twice new → TurnsTo net es xs bounds ts r q (turn + 1) new
+  pub one-turn : {own : Bool} {twice new : List ℕ} → length ts ≤ max_thresholds → turn < 2 → own ≡ eqb turn 1 → Doubled totals twice → Added (length ts) (λ k. each_pairs net es xs bounds own (get_or ts k 0) r (q - r)) twice new → TurnsTo net es xs bounds ts r q (turn + 1) new
   unfolding pairs_after
-  one-turn {twice} {new} few h doubled added = record { most = omega arith; long = added.same_length ∙ doubled.same_length ∙ so_far.long; at = go }
+  one-turn {own} {twice} {new} few h which doubled added = record { most = omega arith; long = added.same_length ∙ doubled.same_length ∙ so_far.long; at = go }
     where
       go : (k : ℕ) → k < length ts → Same64 (total_at new k) (pairs_after net es xs bounds (get_or ts k 0) r (q - r) (turn + 1))
       go k l =
@@ -110,7 +113,7 @@ module _ {net : Network} {es xs bounds ts : List ℕ} {r q turn : ℕ} {totals :
           let two = doubled.at k (omega (arith, so_far.long)) in
           let three = added.at k l (omega (arith, so_far.long, doubled.same_length)) in
           let on : turn + 1 ≡ suc turn = omega arith in
-          rw on record {
+          rw (on, ← which) record {
             up = three.up + two.up + 2 * one.up;
             down = three.down + two.down + 2 * one.down;
             alike = omega (arith, one.alike, two.alike, three.alike);

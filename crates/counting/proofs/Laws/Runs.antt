@@ -1,11 +1,14 @@
 -- Runs as they are read, and the pairs of two runs as the kernels count them.
-use Rattle.std.proofs.Common.{◌≡◌, ℕ, zero, suc, pred, ◌+◌, ◌-◌, ◌<◌, ◌≤◌, ◌&&◌, ◌||◌, eqb, leb, List, length, get_or, sym, refl, ap, ◌∙◌, subst, add-zero, arith, below_more}
+use Rattle.std.proofs.Common.{◌≡◌, ℕ, zero, suc, pred, ◌+◌, ◌-◌, ◌<◌, ◌≤◌, ◌&&◌, ◌||◌, eqb, leb, List, length, get_or, sym, refl, ap, ◌∙◌, subst, add-zero, arith}
+use Rattle.std.proofs.Math.Logic.{∥∥₁_elim}
+use Rattle.std.proofs.Props.{props}
 use Rattle.model.proofs.Laws.Arrival.{count-places}
 use Rattle.model.proofs.Laws.Codes.{decode-code}
 use Rattle.model.proofs.Laws.Counting.{sum-below-cong}
 use Rattle.model.proofs.Laws.Routes.{some-route, event-within}
 use Rattle.model.specs.Distance.{Distance, difference, within, decode}
 use Rattle.model.specs.Events.{event}
+use Rattle.model.specs.Limits.{max_thresholds}
 use Rattle.model.specs.Location.{Side, at_first, at_second, end_node}
 use Rattle.model.specs.Network.{Network, edges, size}
 use Rattle.model.specs.NodeDistance.{bounded_distance}
@@ -16,16 +19,35 @@ use Rattle.edge_pair.specs.Offsets.{Laid}
 use Rattle.edge_pair.specs.Totals.{Added}
 use Rattle.edge_pair.specs.Within.{reached_by, is_reached, reached_pairs}
 use Rattle.edge_pair.specs.declared.edges.EdgePair.{EdgePair}
+use Rattle.prepare.specs.EndTable.{EndTable}
 use Rattle.prepare.specs.Prepared.{entry}
 use Rattle.prepare.specs.RunPairs.{edge_of, part_of, run_pairs, pairs_with, RunsReady}
 use Rattle.prepare.proofs.Laws.RunPairs.{part-of-length, run_is, run-codes, with_nothing, with-next}
-use Rattle.counting.specs.Runs.{run_of, part, RunRead, EdgesRead, ApartTo, PartsIn, TwoReady, AllRuns}
-use Rattle.counting.specs.TwoEdges.{table_edges_of}
+use Rattle.counting.specs.Runs.{run_of, taken_of, part, RunRead, ApartTo, PartsIn, TwoReady, AllRuns}
+use Rattle.counting.specs.TwoEdges.{rows_of, table_edges_of}
 use Rattle.counting.specs.declared.runs.Run.{Run}
+use Rattle.counting.specs.declared.runs.Taken.{Taken}
 
--- two runs with equal parts
-pub same-run : {e e' f f' t t' : ℕ} → e ≡ e' → f ≡ f' → t ≡ t' → ◌≡◌ {A = Run} (record { edge = e; from = f; to = t }) (record { edge = e'; from = f'; to = t' })
-same-run e f t = λ k. record { edge = e k; from = f k; to = t k }
+-- a run that is taken with others
+module _ (net : Network) (es bounds : List ℕ) (a : ℕ) {one : Taken} (is : one ≡ taken_of net es bounds a) where
+  pub number-is : one.number ≡ a
+  unfolding taken_of
+  number-is = rw is refl
+
+  pub taken-itself : one ≡ taken_of net es bounds one.number
+  taken-itself = is ∙ ap (λ (n : ℕ). taken_of net es bounds n) (sym number-is)
+
+  pub run-taken : one.run ≡ run_of es bounds a
+  unfolding taken_of
+  run-taken = rw is refl
+
+  pub edge-taken : one.rows.edge ≡ pred (edge_of es bounds a)
+  unfolding taken_of rows_of
+  edge-taken = rw is refl
+
+  pub rows-taken : one.rows ≡ rows_of net one.rows.edge
+  unfolding taken_of rows_of
+  rows-taken = rw is refl
 
 -- the codes of two edges are the table's entries
 codes_are : (net : Network) (table : List ℕ) (i j : ℕ) (s s' : Side) → code_between_of (table_edges_of net table i j) s s' ≡ entry net table (end_node net i s) (end_node net j s')
@@ -79,103 +101,96 @@ module _ {net : Network} {table es xs bounds ts : List ℕ} {q : ℕ} (w : RunsR
     unfolding reached_pairs run_pairs
     pairs-are n l = sum-below-cong (length xs-a) _ _ (λ k h. count-places _ _ xs-b (λ j m. reached-within (get_or ts n 0) (w.within_bound n l) k j h m))
 
--- at every threshold
-module _ {net : Network} {table es xs bounds near_first near-second ts ladder : List ℕ} {runs : ℕ} (all : AllRuns net table es xs bounds near_first near-second ts ladder runs) where
-  pub read : (k : ℕ) → k < runs → RunRead es bounds k
-  read = run-read all.ready
+-- what the loops over runs read
+module _ {net : Network} {table es xs bounds near_first near-second ts ladder : List ℕ} {runs : ℕ} (all : ∥ AllRuns net table es xs bounds near_first near-second ts ladder runs ∥₁) where
+  pub few_thresholds : length ts ≤ max_thresholds
+  few_thresholds = ∥∥₁_elim all (hlevel props) (λ w. w.few)
 
-  -- and so are the edges of the first ones
-  pub edges-read : (n : ℕ) → n ≤ runs → EdgesRead net table es bounds n
-  edges-read n few =
-      record {
-        table_is = all.ready.table_is;
-        read = λ k l. read k (omega arith);
-        is_edge = λ k l. (let named = run_is all.ready k (omega arith) in omega (arith, named.edge_from, named.edge_to));
-      }
+  pub table_held : EndTable net table
+  table_held = ∥∥₁_elim all (hlevel props) (λ w. w.ready.table_is)
+
+  pub read : (k : ℕ) → k < runs → RunRead es bounds k
+  read k l = ∥∥₁_elim all (hlevel props) (λ w. run-read w.ready k l)
+
+  pub edge_in : (k i : ℕ) → k < runs → i ≡ pred (edge_of es bounds k) → i < edges net
+  edge_in k i l e = ∥∥₁_elim all (hlevel props) (λ w. (let named = run_is w.ready k l in omega (arith, e, named.edge_from, named.edge_to)))
 
   -- a run as it was read: its edge, and its part of the lists
   module _ (k : ℕ) (l : k < runs) (run : Run) (is : run ≡ run_of es bounds k) where
-    pub edge_in : run.edge < edges net
+    pub run-edge-in : run.edge < edges net
     unfolding run_of
-    edge_in =
-        let named = run_is all.ready k l in
-        let edge : pred (edge_of es bounds k) < edges net = omega (arith, named.edge_from, named.edge_to) in
-        rw is edge
+    run-edge-in = edge_in k run.edge l (rw is refl)
 
     pub offsets-in : PartsIn xs run
     unfolding run_of
     offsets-in =
-        let up = all.ready.begins k l in
-        let to = all.ready.ends_in k l in
-        rw is (record { begins = omega arith; in_list = omega (arith, all.ready.in_offsets); few = omega (arith, all.ready.few) })
+        ∥∥₁_elim all (hlevel props) (λ w.
+        let up = w.ready.begins k l in
+        let to = w.ready.ends_in k l in
+        rw is (record { begins = omega arith; in_list = omega (arith, w.ready.in_offsets); few = omega (arith, w.ready.few) }))
 
     pub first-in : PartsIn near_first run
     unfolding run_of
     first-in =
-        let up = all.ready.begins k l in
-        let to = all.ready.ends_in k l in
-        rw is (record { begins = omega arith; in_list = (all.stored.at k l).in_first; few = omega (arith, all.ready.few) })
+        ∥∥₁_elim all (hlevel props) (λ w.
+        let up = w.ready.begins k l in
+        let to = w.ready.ends_in k l in
+        rw is (record { begins = omega arith; in_list = (w.stored.at k l).in_first; few = omega (arith, w.ready.few) }))
 
     pub second-in : PartsIn near-second run
     unfolding run_of
     second-in =
-        let up = all.ready.begins k l in
-        let to = all.ready.ends_in k l in
-        rw is (record { begins = omega arith; in_list = (all.stored.at k l).in_second; few = omega (arith, all.ready.few) })
+        ∥∥₁_elim all (hlevel props) (λ w.
+        let up = w.ready.begins k l in
+        let to = w.ready.ends_in k l in
+        rw is (record { begins = omega arith; in_list = (w.stored.at k l).in_second; few = omega (arith, w.ready.few) }))
 
-  module _ {a b : ℕ} (la : a < runs) (lb : b < runs) (one other : Run) (is : one ≡ run_of es bounds a) (other-is : other ≡ run_of es bounds b) (g : EdgePair) (pair : g ≡ table_edges_of net table one.edge other.edge) where
+  -- two of them at every threshold
+  module _ {a b : ℕ} (la : a < runs) (lb : b < runs) {one : Taken} {other : Run} (is : one ≡ taken_of net es bounds a) (other-is : other ≡ run_of es bounds b) {g : EdgePair} (pair : g ≡ table_edges_of net table one.rows.edge other.edge) where
     pair_is : g ≡ table_edges_of net table (pred (edge_of es bounds a)) (pred (edge_of es bounds b))
     unfolding run_of
-    pair_is = pair ∙ rw (is, other-is) refl
+    pair_is = pair ∙ rw (edge-taken net es bounds a is, other-is) refl
 
-    part-a : (l : List ℕ) → part one l ≡ part_of bounds a l
+    part-a : (l : List ℕ) → part one.run l ≡ part_of bounds a l
     unfolding run_of part_of
-    part-a l = rw is refl
+    part-a l = rw (run-taken net es bounds a is) refl
 
     part-b : (l : List ℕ) → part other l ≡ part_of bounds b l
     unfolding run_of part_of
     part-b l = rw other-is refl
 
     -- what the kernels want
-    two_ready : TwoReady ts ladder g (part one xs) (part other xs) (part other near_first) (part other near-second)
+    two_ready : TwoReady ts ladder g (part_of bounds a xs) (part_of bounds b xs) (part_of bounds b near_first) (part_of bounds b near-second)
     unfolding table_edges_of
     two_ready =
-        let kept = all.stored.at b lb in
-        let laid = run-laid all.ready b lb in
-        let long = (run_is all.ready b lb).part_length in
-        rw (part-a xs, part-b xs, part-b near_first, part-b near-second, pair_is)
+        ∥∥₁_elim all (hlevel props) (λ w.
+        let kept = w.stored.at b lb in
+        let laid = run-laid w.ready b lb in
+        let long = (run_is w.ready b lb).part_length in
+        rw pair_is
         (record {
-          rising = all.rising;
-          ladder_is = all.ladder_is;
-          laid = record { first_laid = run-laid all.ready a la; second_laid = laid };
+          rising = w.rising;
+          ladder_is = w.ladder_is;
+          laid = record { first_laid = run-laid w.ready a la; second_laid = laid };
           first_length = part-of-length bounds near_first b kept.in_first ∙ sym long;
           second_length = part-of-length bounds near-second b kept.in_second ∙ sym long;
           stored = kept.stored _ laid.on_edge;
-        })
+        }))
 
-    counted : (k : ℕ) → k < length ts → reached_pairs (get_or ts k 0) g (part one xs) (part other xs) ≡ run_pairs net es xs bounds (get_or ts k 0) a b
-    counted k h = rw (part-a xs, part-b xs, pair_is) (pairs-are all.ready a b la lb k h)
+    counted : (k : ℕ) → k < length ts → reached_pairs (get_or ts k 0) g (part_of bounds a xs) (part_of bounds b xs) ≡ run_pairs net es xs bounds (get_or ts k 0) a b
+    counted k h = ∥∥₁_elim all (hlevel props) (λ w. rw pair_is (pairs-are w.ready a b la lb k h))
 
     -- what they add
-    pub two-added : {old new : List ℕ} → (TwoReady ts ladder g (part one xs) (part other xs) (part other near_first) (part other near-second) → Added (length ts) (λ k. reached_pairs (get_or ts k 0) g (part one xs) (part other xs)) old new) → Added (length ts) (λ k. run_pairs net es xs bounds (get_or ts k 0) a b) old new
-    two-added found = added-as counted (found two_ready)
+    pub two-added : {one-xs other-xs first second old new : List ℕ} → one-xs ≡ part one.run xs → other-xs ≡ part other xs → first ≡ part other near_first → second ≡ part other near-second → (TwoReady ts ladder g one-xs other-xs first second → Added (length ts) (λ k. reached_pairs (get_or ts k 0) g one-xs other-xs) old new) → Added (length ts) (λ k. run_pairs net es xs bounds (get_or ts k 0) a b) old new
+    two-added {one-xs} {other-xs} {first} {second} e f p q found =
+        let x = e ∙ part-a xs in
+        let y = f ∙ part-b xs in
+        let ready : TwoReady ts ladder g one-xs other-xs first second = rw (x, y, p ∙ part-b near_first, q ∙ part-b near-second) two_ready in
+        added-as (λ k h. rw (x, y) (counted k h)) (found ready)
 
     -- nothing, where none is reached
     pub apart-added : (l : List ℕ) → ((t : ℕ) (xs ys : List ℕ) → reached_pairs t g xs ys ≡ 0) → Added (length ts) (λ k. run_pairs net es xs bounds (get_or ts k 0) a b) l l
-    apart-added l none = added-as (λ k h. sym (none (get_or ts k 0) (part one xs) (part other xs)) ∙ counted k h) (added_none (length ts) l)
-
--- runs apart from the edge at index i: none yet, and one more, whose edge is at index j
-module _ {net : Network} {table es bounds : List ℕ} {i from : ℕ} where
-  pub apart_none : ApartTo net table es bounds i from from
-  apart_none = record { low = omega arith; none = λ k l u. absurd (omega arith) }
-
-  pub apart_more : {b j : ℕ} {g : EdgePair} → ApartTo net table es bounds i from b → j ≡ pred (edge_of es bounds b) → g ≡ table_edges_of net table i j → ((t : ℕ) (xs ys : List ℕ) → reached_pairs t g xs ys ≡ 0) → ApartTo net table es bounds i from (b + 1)
-  apart_more {b} so_far edge pair off =
-      let none-on : (k : ℕ) → Type 0 = λ k. from ≤ k → (t : ℕ) (xs ys : List ℕ) → reached_pairs t (table_edges_of net table i (pred (edge_of es bounds k))) xs ys ≡ 0 in
-      record {
-        low = omega (arith, so_far.low);
-        none = λ k l u. below_more none-on b (λ n u l. so_far.none n l u) (λ _ t xs ys. rw (← edge, ← pair) (off t xs ys)) k u l;
-      }
+    apart-added l none = added-as (λ k h. sym (none (get_or ts k 0) (part_of bounds a xs) (part_of bounds b xs)) ∙ counted k h) (added_none (length ts) l)
 
 -- run a with those from one on up to before run b, added one after the other
 pub record WithTo (net : Network) (es xs bounds ts : List ℕ) (a from b : ℕ) (old new : List ℕ) : Type 0 where
@@ -187,27 +202,24 @@ module _ {net : Network} {es xs bounds ts : List ℕ} {a from : ℕ} where
   with_none l =
       record { low = omega arith; added = added-as (λ k h. sym (with_nothing net es xs bounds (get_or ts k 0) from a)) (added_none (length ts) l) }
 
-  pub with-more : {b : ℕ} {old mid new : List ℕ} → WithTo net es xs bounds ts a from b old mid → Added (length ts) (λ k. run_pairs net es xs bounds (get_or ts k 0) a b) mid new → WithTo net es xs bounds ts a from (b + 1) old new
-  with-more {b} so_far more =
+  pub with-more : {b n : ℕ} {old mid new : List ℕ} → n ≡ a → WithTo net es xs bounds ts a from b old mid → Added (length ts) (λ k. run_pairs net es xs bounds (get_or ts k 0) n b) mid new → WithTo net es xs bounds ts a from (b + 1) old new
+  with-more {b} same so_far more =
       record {
         low = omega (arith, so_far.low);
-        added = added-as (λ k h. sym (with-next net es xs bounds (get_or ts k 0) from a b so_far.low)) (added_then so_far.added more);
+        added = added-as (λ k h. rw same (sym (with-next net es xs bounds (get_or ts k 0) from a b so_far.low))) (added_then so_far.added more);
       }
 
-  pub with_all : {b to : ℕ} {old new : List ℕ} → WithTo net es xs bounds ts a from b old new → b ≡ to → Added (length ts) (λ k. pairs_with net es xs bounds (get_or ts k 0) from a (to - from)) old new
-  with_all w e = rw (← e) w.added
-
 -- runs that lie apart have nothing to add
-module _ {net : Network} {table es xs bounds near_first near-second ts ladder : List ℕ} {runs : ℕ} (all : AllRuns net table es xs bounds near_first near-second ts ladder runs) {a from : ℕ} (la : a < runs) (one : Run) (is : one ≡ run_of es bounds a) {old new : List ℕ} where
-  passed : (n b : ℕ) → WithTo net es xs bounds ts a from b old new → b + n ≤ runs → ApartTo net table es bounds one.edge b (b + n) → WithTo net es xs bounds ts a from (b + n) old new
+module _ {net : Network} {table es xs bounds near_first near-second ts ladder : List ℕ} {runs : ℕ} (all : ∥ AllRuns net table es xs bounds near_first near-second ts ladder runs ∥₁) {a from : ℕ} (la : a < runs) {one : Taken} (is : one ≡ taken_of net es bounds a) {old new : List ℕ} where
+  passed : (n b : ℕ) → WithTo net es xs bounds ts a from b old new → b + n ≤ runs → ApartTo net table es bounds one.rows.edge b (b + n) → WithTo net es xs bounds ts a from (b + n) old new
   unfolding run_of
   passed zero b so_far few off = rw add-zero so_far
   passed (suc n) b so_far few off =
-      let here = apart-added all la (omega arith) one (run_of es bounds b) is refl _ refl new (off.none b (omega arith) (omega arith)) in
+      let here = apart-added all {b = b} la (omega arith) is refl refl new (off.none b (omega arith) (omega arith)) in
       subst (λ (k : ℕ). WithTo net es xs bounds ts a from k old new) (omega arith)
-      (passed n (b + 1) (with-more so_far here) (omega arith) (record { low = omega arith; none = λ k l u. off.none k (omega arith) (omega arith) }))
+      (passed n (b + 1) (with-more refl so_far here) (omega arith) (record { low = omega arith; none = λ k l u. off.none k (omega arith) (omega arith) }))
 
-  pub with-apart : {b c : ℕ} → WithTo net es xs bounds ts a from b old new → c ≤ runs → ApartTo net table es bounds one.edge b c → WithTo net es xs bounds ts a from c old new
+  pub with-apart : {b c : ℕ} → WithTo net es xs bounds ts a from b old new → c ≤ runs → ApartTo net table es bounds one.rows.edge b c → WithTo net es xs bounds ts a from c old new
   with-apart {b} {c} so_far few off =
       let whole : b + (c - b) ≡ c = omega (arith, off.low) in
       subst (λ (k : ℕ). WithTo net es xs bounds ts a from k old new) whole

@@ -1,5 +1,5 @@
 -- Numbers stored run by run: a run that is put back leaves the others as they were.
-use Rattle.std.proofs.Common.{◌≡◌, ℕ, suc, ◌+◌, ◌-◌, ◌<◌, ◌≤◌, List, length, get_or, take, drop, sym, refl, ap, ◌∙◌, ⊎_elim, eq-or-lt_of_le, add-one, arith}
+use Rattle.std.proofs.Common.{◌≡◌, ℕ, suc, ◌+◌, ◌-◌, ◌<◌, ◌≤◌, List, length, get_or, take, drop, sym, ap, ◌∙◌, ⊎_elim, eq-or-lt_of_le, add-one, arith}
 use borrow.Rule.Slice.PartMut.{put_mid, take_put, same_len_mid}
 use Rattle.model.proofs.Laws.Pieces.{part_length, rise}
 use Rattle.model.specs.Limits.{max_events}
@@ -29,10 +29,6 @@ pub record RunCut (xs first second : List ℕ) (from to : ℕ) : Type 0 where
   pub in_second : to ≤ length second
   pub few : to ≤ max_events
   pub rising : Ordered (take (to - from) (drop from xs))
-
-pub none-stored : (xs bounds first second : List ℕ) → StoredTo xs bounds first second 0 first second
-none-stored xs bounds first second =
-    record { first-long = refl; second-long = refl; runs = record { at = λ k h. absurd (omega arith) } }
 
 -- what storing one run takes
 module _ {xs first second : List ℕ} {from to : ℕ} (cut : RunCut xs first second from to) where
@@ -127,7 +123,3 @@ module _ {xs bounds first₀ second₀ : List ℕ} {q : ℕ} (asked : RunsStorab
       rw (begins, ends, add-one k)
       (λ (hf : length (put_mid (bound k) long first pf) ≡ length first) (hs : length (put_mid (bound k) long second ps) ≡ length second) stored.
       one-stored pf ps (put-length (bound k) (bound (suc k)) first pf run.begins in_first hf) (put-length (bound k) (bound (suc k)) second ps run.begins in_second hs) stored)
-
--- all runs
-pub all-stored : {xs bounds first₀ second₀ : List ℕ} {q k : ℕ} {first second : List ℕ} → StoredTo xs bounds first₀ second₀ k first second → k ≡ q → RunsStored xs bounds first second q
-all-stored so_far last = rw last at so_far.runs

@@ -48,10 +48,6 @@ pub row-entry : {net : Network} {table : List ℕ} {u v : ℕ} (row : ℕ) → E
 row-entry {net} {table} {u} {v} row h p q e =
     (q.from_one, rw e (subst (λ (k : ℕ). k < length table) (place-as u v net.nodes) (omega (arith, in-square (held-entry h p q), h.room))))
 
--- two edges with equal rows
-pub same_rows : {e l f f' s s' : ℕ} → f ≡ f' → s ≡ s' → ◌≡◌ {A = Rows} (record { edge = e; length = l; first = f; second = s }) (record { edge = e; length = l; first = f'; second = s' })
-same_rows {e} {l} p q = λ k. record { edge = e; length = l; first = p k; second = q k }
-
 -- the rows of an edge as they were read
 pub rows-read : (net : Network) (i : ℕ) (rows : Rows) → rows ≡ rows_of net i → (rows.first ≡ pred (first net i) * net.nodes) × (rows.second ≡ pred (second net i) * net.nodes)
 unfolding rows_of

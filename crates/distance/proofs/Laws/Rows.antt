@@ -1,4 +1,5 @@
 -- Rows of distances: one asked for with a node for a source and room for the answers is accepted, and what its entries are then.
+use Rattle.model.specs.Refusal.{Check, accepted}
 use mathlib.Core.List.{List}
 use mathlib.Core.Path.{◌≡◌, ◌∙◌, ap}
 use Prim.Native.Nat.{ℕ, suc, pred, ◌+◌, ◌*◌, ◌≤◌, ◌<◌}
@@ -14,8 +15,6 @@ use Rattle.model.specs.Counting.{numbers_from}
 use Rattle.model.specs.Distance.{code}
 use Rattle.model.specs.Network.{Network, IsNode}
 use Rattle.model.specs.NodeDistance.{bounded_distance}
-use Rattle.model.specs.declared.check.Check.{Check}
-use Rattle.model.specs.declared.check.Check.TheVariants.{Accepted}
 use Rattle.distance.specs.Answers.{distance_row, row_check, RowAnswered}
 use Rattle.distance.specs.Search.{Found}
 
@@ -39,7 +38,7 @@ module _ (net : Network) (bound source : ℕ) where
       ∙ ap (λ (n : ℕ). code (bounded_distance net bound source n)) (omega (arith, node.from_one))
 
 -- an accepted network, a node for a source and room: the row is accepted
-pub row-accepts : (net : Network) (source : ℕ) (answers : List ℕ) → network_check net ≡ Accepted → IsNode net source → net.nodes ≤ length answers → row_check net source answers ≡ Accepted
+pub row-accepts : (net : Network) (source : ℕ) (answers : List ℕ) → network_check net ≡ accepted → IsNode net source → net.nodes ≤ length answers → row_check net source answers ≡ accepted
 unfolding row_check network_check
 row-accepts net source answers accepted node room =
     let both = both-accepted _ _ accepted in
@@ -48,9 +47,9 @@ row-accepts net source answers accepted node room =
     (ap (λ (lone : Check). network_values lone net) (lone-node-accept net source node) ∙ both.1))
 
 -- what stands in the answers then
-module _ {net : Network} {source bound : ℕ} {answers after : List ℕ} {r : Check} (answered : RowAnswered net source bound answers r after) (accepted : network_check net ≡ Accepted) (node : IsNode net source) (room : net.nodes ≤ length answers) where
-  is-accepted : row_check net source answers ≡ Accepted
-  is-accepted = row-accepts net source answers accepted node room
+module _ {net : Network} {source bound : ℕ} {answers after : List ℕ} {r : Check} (answered : RowAnswered net source bound answers r after) (passed : network_check net ≡ accepted) (node : IsNode net source) (room : net.nodes ≤ length answers) where
+  is-accepted : row_check net source answers ≡ accepted
+  is-accepted = row-accepts net source answers passed node room
 
   -- node v's entry, at index v - 1
   pub row-entry : (v : ℕ) → IsNode net v → get_or after (pred v) 0 ≡ code (bounded_distance net bound source v)
@@ -62,7 +61,7 @@ module _ {net : Network} {source bound : ℕ} {answers after : List ℕ} {r : Ch
   -- the same, and how far it is at most
   pub row-found : (v : ℕ) → IsNode net v → Found net source bound v (get_or after (pred v) 0)
   row-found v is =
-      let past : r ≡ Accepted = answered.verdict ∙ is-accepted in
+      let past : r ≡ accepted = answered.verdict ∙ is-accepted in
       record {
         bounded = row-entry v is;
         whole = λ wide. row-entry v is ∙ ap code (answered.whole past wide v);

@@ -1,5 +1,5 @@
 -- Totals that are alike in 64 bits, and what is added to them one after the other.
-use Rattle.std.proofs.Common.{◌≡◌, ℕ, zero, suc, ◌+◌, ◌/◌, ◌%◌, ◌<◌, ◌≤◌, cond, leb, List, length, get_or, set, sym, refl, ap, ◌∙◌, div-add-mod', arith, length-set, get_or-set_other, get_or-set_same, le-leb}
+use Rattle.std.proofs.Common.{◌≡◌, ℕ, zero, suc, ◌+◌, ◌-◌, ◌/◌, ◌%◌, ◌<◌, ◌≤◌, cond, leb, List, length, get_or, set, sym, refl, ap, ◌∙◌, div-add-mod', arith, length-set, get_or-set_other, get_or-set_same, le-leb}
 use native.Mathlib.Decide.{ℕ_discrete, dec_lt, dec_le}
 use borrow.Author.Tests.{lt-leb}
 use Rattle.model.specs.Counting.{sum_below}
@@ -8,9 +8,6 @@ use Rattle.edge_pair.specs.Totals.{wrap, Same64, total_at, Added, Changed}
 -- alike numbers
 pub same_of : {a b : ℕ} → a ≡ b → Same64 a b
 same_of e = record { up = 0; down = 0; alike = omega (arith, e) }
-
-pub same_turn : {a b : ℕ} → Same64 a b → Same64 b a
-same_turn s = record { up = s.down; down = s.up; alike = omega (arith, s.alike) }
 
 pub same_then : {a b c : ℕ} → Same64 a b → Same64 b c → Same64 a c
 same_then s r = record { up = s.up + r.up; down = s.down + r.down; alike = omega (arith, s.alike, r.alike) }
@@ -24,6 +21,10 @@ same-less c s = record { up = s.up; down = s.down; alike = omega (arith, s.alike
 -- what is left of a number in 64 bits
 pub same_rest : {r n : ℕ} → r ≡ n % wrap → Same64 r n
 same_rest {r} {n} e = record { up = n / wrap; down = 0; alike = omega (arith, e, div-add-mod' n wrap) }
+
+-- and of a number less another of 64 bits
+pub same_less : {r n less : ℕ} → less ≤ wrap → r ≡ (n + (wrap - less)) % wrap → Same64 (r + less) n
+same_less {r} {n} {less} h e = record { up = (n + (wrap - less)) / wrap; down = 1; alike = omega (arith, e, div-add-mod' (n + (wrap - less)) wrap) }
 
 -- numbers of 64 bits that are alike are equal
 pub same-small : {a b : ℕ} → a < wrap → b < wrap → Same64 a b → a ≡ b

@@ -1,6 +1,6 @@
 -- The verdict, told.
-use Rattle.exports.proofs.Telling.{row-answered}
+use Rattle.exports.proofs.Telling.{told}
 use Rattle.exports.proofs.kc_distances_from.Goals as goal
 
-pub returns : goal.returns
-returns c = let r = row-answered c.distances_from-answer.ensures c.tell.ensures in record { told = r.0; row_answered = r.1 }
+pub returns-clause-told : goal.returns-clause-told
+returns-clause-told c = told c.distances_from-answer.ensures.verdict c.tell.ensures

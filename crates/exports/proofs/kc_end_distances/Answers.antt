@@ -1,6 +1,6 @@
 -- The verdict, told.
-use Rattle.exports.proofs.Telling.{table-answered}
+use Rattle.exports.proofs.Telling.{told}
 use Rattle.exports.proofs.kc_end_distances.Goals as goal
 
-pub returns : goal.returns
-returns c = let r = table-answered c.end_distances-answer.ensures c.tell.ensures in record { told = r.0; table_answered = r.1 }
+pub returns-clause-told : goal.returns-clause-told
+returns-clause-told c = told c.end_distances-answer.ensures.verdict c.tell.ensures

@@ -1,7 +1,7 @@
 -- The answer, told.
-use Rattle.exports.proofs.Telling.{retold}
-use Rattle.exports.specs.Told.{count_verdict, count_of}
+use Rattle.exports.specs.Told.{count_of, value_or}
 use Rattle.exports.proofs.kc_perimeter_count.Goals as goal
 
 pub returns : goal.returns
-returns c = retold count_verdict count_of c.perimeter_count-answer.ensures c.tell_count.ensures
+unfolding count_of value_or
+returns c = rw c.perimeter_count-answer.ensures at c.tell.ensures

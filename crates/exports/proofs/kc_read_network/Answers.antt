@@ -1,6 +1,5 @@
 -- The answer, told.
-use Rattle.exports.proofs.Telling.{read-network}
 use Rattle.exports.proofs.kc_read_network.Goals as goal
 
-pub returns : goal.returns
-returns c = let r = read-network c.read_network-answer.ensures c.tell_network.ensures in record { told_network = r.0; network_read = r.1 }
+pub returns-clause-told_network : goal.returns-clause-told_network
+returns-clause-told_network c = rw c.read_network-answer.ensures.answer at c.tell_network.ensures

@@ -1,6 +1,7 @@
 -- The answer, told.
-use Rattle.exports.proofs.Telling.{thresholds-read}
+use Rattle.exports.specs.Told.{count_of, value_or}
 use Rattle.exports.proofs.kc_read_thresholds.Goals as goal
 
-pub returns : goal.returns
-returns c = let r = thresholds-read c.read_thresholds-answer.ensures c.tell_list.ensures in record { told_with = r.0; thresholds_read = r.1 }
+pub returns-clause-told_with : goal.returns-clause-told_with
+unfolding count_of value_or
+returns-clause-told_with c = rw c.read_thresholds-answer.ensures.answer at c.tell.ensures

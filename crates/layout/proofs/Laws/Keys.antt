@@ -1,52 +1,45 @@
 -- Keys stand for events, and their order for the order of events.
-use mathlib.Core.Bool.{Bool, true, false, not, or-true}
+use mathlib.Core.Bool.{Bool, true, false}
 use mathlib.Core.List.{List, [], ◌∷◌, ◌++◌, map, map-map}
 use mathlib.Core.Path.{◌≡◌, refl, sym, ap, ap₂, ◌∙◌}
 use Prim.Native.Nat.{ℕ, suc, ◌+◌, ◌*◌, ◌≤◌, ◌<◌}
 use native.Mathlib.Omega.{arith}
-use native.Mathlib.Numerals.{lt_of_le_of_ne}
-use lib.Dec.{leb, eqb}
+use lib.Dec.{eqb}
 use lib.ListN.{length, take, drop, get_or, set, drop_of_length-le}
-use borrow.Author.Tests.{lt-ltb, le-ltb, leb-true, leb-false, eqb-true, eqb-false}
-use Rattle.model.specs.Events.{Event, event, events, before, insert, sorted}
+use borrow.Author.Tests.{le-ltb, eqb-true}
+use Rattle.std.proofs.lemmas.List.Sorted.{IsNonDecreasingBy-from_sort, IsPermutation-map}
+use Rattle.std.specs.List.Sorted.{IsNonDecreasing, IsPermutation, IsSorted}
+use Rattle.std.specs.Ordering.{nat_cmp}
+use Rattle.model.proofs.Laws.Sorted.{sorted-unique}
+use Rattle.model.specs.Events.{Event, event, events, before, sorted, InOrder, empty, one, more}
 use Rattle.layout.proofs.Laws.Filling.{next_of, one_more, all-filled}
-use Rattle.layout.specs.Sorting.{insert_number, sort_numbers}
+use Rattle.layout.proofs.Laws.Sorting.{moved-rearranged}
 use Rattle.layout.specs.Keys.{key_base, key_of, edge_of, offset_of, event_of}
 
--- the event of a lower key comes before that of a higher one, and no other does
-module _ (m n : ℕ) where
-  key-order : (b c : Bool) → leb n m ≡ b → eqb (edge_of m) (edge_of n) ≡ c → before (event_of m) (event_of n) ≡ not b
-  unfolding before
-  key-order true true h e =
-      let low : n ≤ m = leb-true n m h in
-      let same : edge_of m ≡ edge_of n = eqb-true (edge_of m) (edge_of n) e in
-      simp (le-ltb (edge_of m) (edge_of n) (omega arith), e, le-ltb (offset_of m) (offset_of n) (omega arith))
-  key-order true false h e = let low : n ≤ m = leb-true n m h in simp (le-ltb (edge_of m) (edge_of n) (omega arith), e)
-  key-order false true h e =
-      let low : m < n = leb-false n m h in
-      let same : edge_of m ≡ edge_of n = eqb-true (edge_of m) (edge_of n) e in
-      simp (e, lt-ltb (offset_of m) (offset_of n) (omega arith), or-true)
-  key-order false false h e =
-      let low : m < n = leb-false n m h in
-      simp (lt-ltb (edge_of m) (edge_of n) (lt_of_le_of_ne (omega arith) (eqb-false (edge_of m) (edge_of n) e)))
-
--- a key's event inserted among the events of keys is the key inserted
-insert-keys : (n : ℕ) (ms : List ℕ) → insert (event_of n) (map event_of ms) ≡ map event_of (insert_number n ms)
-unfolding insert insert_number
-insert-keys n [] = refl
-insert-keys n (m ∷ ms) = go (leb n m) refl (insert-keys n ms)
+-- the event of a key that is no lower does not come before
+not-before : (m n : ℕ) → m ≤ n → before (event_of n) (event_of m) ≡ false
+unfolding before
+not-before m n h = go (eqb (edge_of n) (edge_of m)) refl
   where
-    go : (b : Bool) → leb n m ≡ b → insert (event_of n) (map event_of ms) ≡ map event_of (insert_number n ms)
-        → insert (event_of n) (map event_of (m ∷ ms)) ≡ map event_of (insert_number n (m ∷ ms))
-    go true h behind = simp (key-order m n true (eqb (edge_of m) (edge_of n)) h refl, h)
-    go false h behind =
-        simp (key-order m n false (eqb (edge_of m) (edge_of n)) h refl, h) (ap (λ (l : List Event). event_of m ∷ l) behind)
+    go : (c : Bool) → eqb (edge_of n) (edge_of m) ≡ c → before (event_of n) (event_of m) ≡ false
+    go true e =
+        let same : edge_of n ≡ edge_of m = eqb-true (edge_of n) (edge_of m) e in
+        simp (le-ltb (edge_of n) (edge_of m) (omega arith), e, le-ltb (offset_of n) (offset_of m) (omega arith))
+    go false e = simp (le-ltb (edge_of n) (edge_of m) (omega arith), e)
 
--- the events of keys sorted are the keys sorted
-pub sort-keys : (ns : List ℕ) → sorted (map event_of ns) ≡ map event_of (sort_numbers ns)
-unfolding sorted sort_numbers
-sort-keys [] = refl
-sort-keys (n ∷ ns) = ap (insert (event_of n)) (sort-keys ns) ∙ insert-keys n (sort_numbers ns)
+-- the events of keys that do not fall are in order
+keys-in-order : (ns : List ℕ) → IsNonDecreasing ns → InOrder (map event_of ns)
+keys-in-order [] up = empty
+keys-in-order (n ∷ []) up = one
+keys-in-order (m ∷ n ∷ ns) up =
+    more (not-before m n (up 0 1 0 (omega arith) (omega arith))) (keys-in-order (n ∷ ns) (λ i j d p q. up (suc i) (suc j) d (omega arith) (omega arith)))
+
+-- the events of keys that were sorted are the events sorted
+sorted-keys : (ns ms : List ℕ) → IsPermutation ns ms → IsSorted nat_cmp ms → map event_of ms ≡ sorted (map event_of ns)
+sorted-keys ns ms moved up =
+    sorted-unique (map event_of ns) (map event_of ms)
+    (moved-rearranged (map event_of ns) (map event_of ms) (IsPermutation-map event_of ns ms moved))
+    (keys-in-order ms (IsNonDecreasingBy-from_sort (λ n. n) ms up))
 
 -- an event whose offset fits is that of its key
 key-event : (e x : ℕ) → x < key_base → event_of (key_of (event e x)) ≡ event e x
@@ -76,9 +69,9 @@ keys_filled es xs out i h k e =
     (ap (λ (l : List ℕ). map key_of (events l (drop i xs))) (drop_of_length-le es k))
     e
 
--- taken apart again, the sorted keys of events are the sorted events
-pub sorted-parts : (f : Event → ℕ) (es xs : List ℕ) → ((i : ℕ) → get_or xs i 0 < key_base)
-    → map (λ n. f (event_of n)) (sort_numbers (map key_of (events es xs))) ≡ map f (sorted (events es xs))
-sorted-parts f es xs h =
-    sym (map-map f event_of (sort_numbers (map key_of (events es xs))))
-    ∙ ap (map f) (sym (sort-keys (map key_of (events es xs))) ∙ ap sorted (keys-events es xs h))
+-- taken apart again, the keys of events, sorted, are the sorted events
+pub sorted-parts : (f : Event → ℕ) (es xs ns : List ℕ) → ((i : ℕ) → get_or xs i 0 < key_base)
+    → IsPermutation (map key_of (events es xs)) ns → IsSorted nat_cmp ns → map (λ n. f (event_of n)) ns ≡ map f (sorted (events es xs))
+sorted-parts f es xs ns h moved up =
+    sym (map-map f event_of ns)
+    ∙ ap (map f) (sorted-keys (map key_of (events es xs)) ns moved up ∙ ap sorted (keys-events es xs h))

@@ -1,5 +1,6 @@
 -- What acceptance by the checks put together means: every crate above rests on it. `..-accepted` says that what is
 -- accepted is within the limits, `..-accepts` that all within the limits is accepted.
+use Rattle.model.specs.Refusal.{Check, accepted}
 use mathlib.Core.List.{List}
 use mathlib.Core.Logic.{⊎_elim}
 use mathlib.Core.Path.{◌≡◌, refl}
@@ -12,8 +13,6 @@ use Rattle.model.specs.Checks.{network_lists, event_lists, network_values, netwo
 use Rattle.model.specs.Events.{event, events, IsEvent, InOrder, set_size, greatest_set_of}
 use Rattle.model.specs.Limits.{max_nodes, max_edges, max_length, max_events, max_set, max_thresholds}
 use Rattle.model.specs.Network.{Network, IsNode, EndsAreNodes, edges, size}
-use Rattle.model.specs.declared.check.Check.{Check}
-use Rattle.model.specs.declared.check.Check.TheVariants.{Accepted}
 use Rattle.model.proofs.Laws.CheckParts as part
 
 -- a network within its limits: what 2, 6, 7 and 9 leave
@@ -31,9 +30,9 @@ pub record IsNetwork (net : Network) : Type 0 where
 -- the lists and the values of a network, with the check of lone nodes between them
 record Values (lone : Check) (net : Network) : Type 0 where
   is-network : IsNetwork net
-  lone-accepted : lone ≡ Accepted
+  lone-accepted : lone ≡ accepted
 
-values-accepted : (lone : Check) (net : Network) → network_lists net ≡ Accepted → network_values lone net ≡ Accepted → Values lone net
+values-accepted : (lone : Check) (net : Network) → network_lists net ≡ accepted → network_values lone net ≡ accepted → Values lone net
 unfolding network_values
 values-accepted lone net lists e =
     let of-lists = part.lists-accepted net lists in
@@ -57,17 +56,17 @@ values-accepted lone net lists e =
       lone-accepted = from-lone.0;
     }
 
-pub network-accepted : (net : Network) → network_check net ≡ Accepted → IsNetwork net
+pub network-accepted : (net : Network) → network_check net ≡ accepted → IsNetwork net
 unfolding network_check
 network-accepted net e =
     let both = both-accepted _ _ e in
-    (values-accepted Accepted net both.0 both.1).is-network
+    (values-accepted accepted net both.0 both.1).is-network
 
 -- the parts of a network within the limits
-lists-accept : (net : Network) → IsNetwork net → network_lists net ≡ Accepted
+lists-accept : (net : Network) → IsNetwork net → network_lists net ≡ accepted
 lists-accept net n = part.lists-accept net n.firsts_length n.seconds_length
 
-values-accept : (lone : Check) (net : Network) → IsNetwork net → lone ≡ Accepted → network_values lone net ≡ Accepted
+values-accept : (lone : Check) (net : Network) → IsNetwork net → lone ≡ accepted → network_values lone net ≡ accepted
 unfolding network_values
 values-accept lone net n accepted =
     both-accept (part.sizes-accept _ _ (record { from = n.nodes-from; to = n.nodes_to }) (record { from = n.edges-from; to = n.edges-to }))
@@ -76,9 +75,9 @@ values-accept lone net n accepted =
     (part.lengths-accept net (λ i h. record { from = n.length_from i h; to = n.length_to i h }))))
 
 -- and back: nothing else is refused
-pub network-accepts : (net : Network) → IsNetwork net → network_check net ≡ Accepted
+pub network-accepts : (net : Network) → IsNetwork net → network_check net ≡ accepted
 unfolding network_check
-network-accepts net n = both-accept (lists-accept net n) (values-accept Accepted net n refl)
+network-accepts net n = both-accept (lists-accept net n) (values-accept accepted net n refl)
 
 -- a network and two lone nodes
 pub record NodesAccepted (net : Network) (u v : ℕ) : Type 0 where
@@ -86,7 +85,7 @@ pub record NodesAccepted (net : Network) (u v : ℕ) : Type 0 where
   pub first-node : IsNode net u
   pub second-node : IsNode net v
 
-pub nodes-accepted : (net : Network) (u v : ℕ) → nodes_over_network_check net u v ≡ Accepted → NodesAccepted net u v
+pub nodes-accepted : (net : Network) (u v : ℕ) → nodes_over_network_check net u v ≡ accepted → NodesAccepted net u v
 unfolding nodes_over_network_check
 nodes-accepted net u v e =
     let both = both-accepted _ _ e in
@@ -98,7 +97,7 @@ nodes-accepted net u v e =
       second-node = part.lone-node-accepted net v lone.1;
     }
 
-pub nodes-accepts : (net : Network) (u v : ℕ) → NodesAccepted net u v → nodes_over_network_check net u v ≡ Accepted
+pub nodes-accepts : (net : Network) (u v : ℕ) → NodesAccepted net u v → nodes_over_network_check net u v ≡ accepted
 unfolding nodes_over_network_check
 nodes-accepts net u v a =
     both-accept (lists-accept net a.is-network)
@@ -119,7 +118,7 @@ on_edge net e x named within = record { from_one = named.from; to_edges = named.
 named-edge : (net : Network) (e x : ℕ) → IsEvent net (event e x) → Between 1 (edges net) e
 named-edge net e x is = record { from = is.from_one; to = is.to_edges }
 
-pub locations-accepted : (net : Network) (e x f y : ℕ) → locations_over_network_check net e x f y ≡ Accepted → LocationsAccepted net e x f y
+pub locations-accepted : (net : Network) (e x f y : ℕ) → locations_over_network_check net e x f y ≡ accepted → LocationsAccepted net e x f y
 unfolding locations_over_network_check
 locations-accepted net e x f y h =
     let lone = both-accepted _ _ h in
@@ -132,7 +131,7 @@ locations-accepted net e x f y h =
       second-location = on_edge net f y (part.lone-edge-accepted net f named-f.0) (part.lone-offset-accepted net f y offsets.1);
     }
 
-pub locations-accepts : (net : Network) (e x f y : ℕ) → LocationsAccepted net e x f y → locations_over_network_check net e x f y ≡ Accepted
+pub locations-accepts : (net : Network) (e x f y : ℕ) → LocationsAccepted net e x f y → locations_over_network_check net e x f y ≡ accepted
 unfolding locations_over_network_check
 locations-accepts net e x f y a =
     both-accept (network-accepts net a.is-network)
@@ -147,7 +146,7 @@ pub record AreEvents (net : Network) (es xs : List ℕ) : Type 0 where
   pub event-at : (k : ℕ) → k < length es → IsEvent net (event (get_or es k 0) (get_or xs k 0))
   pub few : length es ≤ max_events
 
-are-events : (net : Network) (es xs : List ℕ) → length es ≡ length xs → event_values net es xs ≡ Accepted → AreEvents net es xs
+are-events : (net : Network) (es xs : List ℕ) → length es ≡ length xs → event_values net es xs ≡ accepted → AreEvents net es xs
 unfolding event_values
 are-events net es xs same e =
     let named = both-accepted _ _ e in
@@ -158,7 +157,7 @@ are-events net es xs same e =
       few = part.count-accepted (length es) rest.1;
     }
 
-pub events-accept : (net : Network) (es xs : List ℕ) → AreEvents net es xs → event_values net es xs ≡ Accepted
+pub events-accept : (net : Network) (es xs : List ℕ) → AreEvents net es xs → event_values net es xs ≡ accepted
 unfolding event_values
 events-accept net es xs a =
     both-accept (part.edges-accept net es (λ k h. named-edge net _ _ (a.event-at k h)))
@@ -169,23 +168,23 @@ pub record SetAccepted (net : Network) (es xs : List ℕ) : Type 0 where
   pub is-network : IsNetwork net
   pub are-events : AreEvents net es xs
 
-pub set-accepted : (net : Network) (es xs : List ℕ) → set_check net es xs ≡ Accepted → SetAccepted net es xs
+pub set-accepted : (net : Network) (es xs : List ℕ) → set_check net es xs ≡ accepted → SetAccepted net es xs
 unfolding set_check event_lists
 set-accepted net es xs e =
     let lists = both-accepted _ _ e in
     let same = both-accepted _ _ lists.1 in
     let values = both-accepted _ _ same.1 in
     record {
-      is-network = (values-accepted Accepted net lists.0 values.0).is-network;
+      is-network = (values-accepted accepted net lists.0 values.0).is-network;
       are-events = are-events net es xs (part.same-length-accepted es xs same.0) values.1;
     }
 
-pub set-accepts : (net : Network) (es xs : List ℕ) → SetAccepted net es xs → set_check net es xs ≡ Accepted
+pub set-accepts : (net : Network) (es xs : List ℕ) → SetAccepted net es xs → set_check net es xs ≡ accepted
 unfolding set_check event_lists
 set-accepts net es xs a =
     both-accept (lists-accept net a.is-network)
     (both-accept (part.same-length-accepts es xs a.are-events.same_length)
-    (both-accept (values-accept Accepted net a.is-network refl) (events-accept net es xs a.are-events)))
+    (both-accept (values-accept accepted net a.is-network refl) (events-accept net es xs a.are-events)))
 
 -- one set given as laid out, and the number of one edge
 pub record LaidOutAccepted (net : Network) (es xs : List ℕ) (edge : ℕ) : Type 0 where
@@ -194,7 +193,7 @@ pub record LaidOutAccepted (net : Network) (es xs : List ℕ) (edge : ℕ) : Typ
   pub is_edge : Between 1 (edges net) edge
   pub in_order : InOrder (events es xs)
 
-pub laid-out-accepted : (net : Network) (es xs : List ℕ) (edge : ℕ) → laid_out_check net es xs edge ≡ Accepted → LaidOutAccepted net es xs edge
+pub laid-out-accepted : (net : Network) (es xs : List ℕ) (edge : ℕ) → laid_out_check net es xs edge ≡ accepted → LaidOutAccepted net es xs edge
 unfolding laid_out_check event_lists
 laid-out-accepted net es xs edge e =
     let lists = both-accepted _ _ e in
@@ -204,18 +203,18 @@ laid-out-accepted net es xs edge e =
     let rest = both-accepted _ _ named.1 in
     let long = part.same-length-accepted es xs same.0 in
     record {
-      is-network = (values-accepted Accepted net lists.0 values.0).is-network;
+      is-network = (values-accepted accepted net lists.0 values.0).is-network;
       are-events = are-events net es xs long rest.0;
       is_edge = part.lone-edge-accepted net edge named.0;
       in_order = part.in_order es xs long (part.order-accepted es xs rest.1);
     }
 
-pub laid-out-accepts : (net : Network) (es xs : List ℕ) (edge : ℕ) → LaidOutAccepted net es xs edge → laid_out_check net es xs edge ≡ Accepted
+pub laid-out-accepts : (net : Network) (es xs : List ℕ) (edge : ℕ) → LaidOutAccepted net es xs edge → laid_out_check net es xs edge ≡ accepted
 unfolding laid_out_check event_lists
 laid-out-accepts net es xs edge a =
     both-accept (lists-accept net a.is-network)
     (both-accept (part.same-length-accepts es xs a.are-events.same_length)
-    (both-accept (values-accept Accepted net a.is-network refl)
+    (both-accept (values-accept accepted net a.is-network refl)
     (both-accept (part.lone-edge-accept net edge a.is_edge)
     (both-accept (events-accept net es xs a.are-events)
     (part.order-accept es xs (part.order-in es xs a.are-events.same_length a.in_order))))))
@@ -228,7 +227,7 @@ pub record SetsAccepted (net : Network) (sets es xs : List ℕ) : Type 0 where
   pub numbers : (k : ℕ) → k < length sets → get_or sets k 0 ≤ max_set
   pub equal : (s : ℕ) → 1 ≤ s → s ≤ greatest_set_of sets → set_size sets s ≡ set_size sets 0
 
-pub sets-accepted : (net : Network) (sets es xs : List ℕ) → sets_over_network_check net sets es xs ≡ Accepted → SetsAccepted net sets es xs
+pub sets-accepted : (net : Network) (sets es xs : List ℕ) → sets_over_network_check net sets es xs ≡ accepted → SetsAccepted net sets es xs
 unfolding sets_over_network_check
 sets-accepted net sets es xs e =
     let lists = both-accepted _ _ e in
@@ -238,19 +237,19 @@ sets-accepted net sets es xs e =
     let rest = both-accepted _ _ numbers.1 in
     let long = part.set-lists-accepted sets es xs same.0 in
     record {
-      is-network = (values-accepted Accepted net lists.0 values.0).is-network;
+      is-network = (values-accepted accepted net lists.0 values.0).is-network;
       are-events = are-events net es xs long.1 rest.0;
       sets_length = long.0;
       numbers = part.set-numbers-accepted sets numbers.0;
       equal = part.equal-sets-accepted sets rest.1;
     }
 
-pub sets-accepts : (net : Network) (sets es xs : List ℕ) → SetsAccepted net sets es xs → sets_over_network_check net sets es xs ≡ Accepted
+pub sets-accepts : (net : Network) (sets es xs : List ℕ) → SetsAccepted net sets es xs → sets_over_network_check net sets es xs ≡ accepted
 unfolding sets_over_network_check
 sets-accepts net sets es xs a =
     both-accept (lists-accept net a.is-network)
     (both-accept (part.set-lists-accept sets es xs a.sets_length a.are-events.same_length)
-    (both-accept (values-accept Accepted net a.is-network refl)
+    (both-accept (values-accept accepted net a.is-network refl)
     (both-accept (part.set-numbers-accept sets a.numbers)
     (both-accept (events-accept net es xs a.are-events) (part.equal-sets-accept sets a.equal)))))
 
@@ -260,14 +259,14 @@ pub record ThresholdsAccepted (ts : List ℕ) : Type 0 where
   pub few : length ts ≤ max_thresholds
   pub rising : (k : ℕ) → suc k < length ts → get_or ts k 0 < get_or ts (suc k) 0
 
-pub thresholds-accepted : (ts : List ℕ) → thresholds_check ts ≡ Accepted → ThresholdsAccepted ts
+pub thresholds-accepted : (ts : List ℕ) → thresholds_check ts ≡ accepted → ThresholdsAccepted ts
 unfolding thresholds_check
 thresholds-accepted ts e =
     let both = both-accepted _ _ e in
     let count = part.threshold-count-accepted (length ts) both.0 in
     record { some = count.from; few = count.to; rising = part.rising-accepted ts both.1 }
 
-pub thresholds-accepts : (ts : List ℕ) → ThresholdsAccepted ts → thresholds_check ts ≡ Accepted
+pub thresholds-accepts : (ts : List ℕ) → ThresholdsAccepted ts → thresholds_check ts ≡ accepted
 unfolding thresholds_check
 thresholds-accepts ts a =
     both-accept (part.threshold-count-accept (length ts) (record { from = a.some; to = a.few })) (part.rising-accept ts a.rising)
@@ -286,12 +285,12 @@ pub record LayoutAccepted (es xs : List ℕ) : Type 0 where
   pub same_length : length es ≡ length xs
   pub few : length es ≤ max_events
 
-pub layout-accepted : (es xs : List ℕ) → layout_check es xs ≡ Accepted → LayoutAccepted es xs
+pub layout-accepted : (es xs : List ℕ) → layout_check es xs ≡ accepted → LayoutAccepted es xs
 unfolding layout_check event_lists
 layout-accepted es xs e =
     let both = both-accepted _ _ e in
     record { same_length = part.same-length-accepted es xs both.0; few = part.count-accepted (length es) both.1 }
 
-pub layout-accepts : (es xs : List ℕ) → LayoutAccepted es xs → layout_check es xs ≡ Accepted
+pub layout-accepts : (es xs : List ℕ) → LayoutAccepted es xs → layout_check es xs ≡ accepted
 unfolding layout_check event_lists
 layout-accepts es xs a = both-accept (part.same-length-accepts es xs a.same_length) (part.count-accept (length es) a.few)

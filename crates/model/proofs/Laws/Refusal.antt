@@ -8,74 +8,76 @@ use native.Mathlib.Omega.{arith}
 use borrow.Author.Count.{below_more}
 use borrow.Author.Tests.{le-leb, leb-true}
 use lib.Dec.{leb}
-use Rattle.model.specs.Refusal.{or_else, unless, first_bad, first_bad_from, is_between_of, lists_differ}
-use Rattle.model.specs.declared.check.Check.{Check}
-use Rattle.model.specs.declared.check.Check.TheVariants.{Accepted, Refused}
+use Rattle.std.specs.Prelude.{Ok, Err}
+use Rattle.model.specs.Refusal.{or_else, unless, first_bad, first_bad_from, is_between_of, Check, accepted, refusal}
+use Rattle.model.specs.declared.refusal.Fault.TheVariants.{ListsDiffer}
+use Rattle.model.specs.declared.refusal.Fault.{Fault}
+use Rattle.model.specs.declared.refusal.Refusal.{Refusal}
 
 -- a refusal is no acceptance
-pub not-accepted : {n p : ℕ} {G : Type 0} → Refused n p ≡ Accepted → G
-not-accepted e = absurd (let z : ◌≡◌ {A = ℕ} 0 1 = cc in omega arith)
+pub not-accepted : {x : Refusal} {G : Type 0} → ◌≡◌ {A = Check} (Err x) accepted → G
+not-accepted e = cc
 
 -- the first check accepts: the next one decides
-pub or-else-next : {a : Check} (b : Check) → a ≡ Accepted → or_else a b ≡ b
+pub or-else-next : {a : Check} (b : Check) → a ≡ accepted → or_else a b ≡ b
 unfolding or_else
 or-else-next b e = rw e
 
 -- the first check refuses: it decides
-pub or-else-refused : {a : Check} (b : Check) {n p : ℕ} → a ≡ Refused n p → or_else a b ≡ Refused n p
+pub or-else-refused : {a : Check} (b : Check) {x : Refusal} → a ≡ Err x → or_else a b ≡ Err x
 unfolding or_else
 or-else-refused b e = rw e
 
 -- r is what the first check said, and it refused: r is what the two say
-pub stops-here : {r a : Check} (b : Check) {n p : ℕ} → r ≡ a → r ≡ Refused n p → r ≡ or_else a b
+pub stops-here : {r a : Check} (b : Check) {x : Refusal} → r ≡ a → r ≡ Err x → r ≡ or_else a b
 stops-here b e refused = refused ∙ sym (or-else-refused b (sym e ∙ refused))
 
 -- the first check accepted: what the next one says is what the two say
-pub goes_on : {r a s b : Check} → r ≡ a → r ≡ Accepted → s ≡ b → s ≡ or_else a b
+pub goes_on : {r a s b : Check} → r ≡ a → r ≡ accepted → s ≡ b → s ≡ or_else a b
 goes_on {r} {a} {s} {b} e accepted next = next ∙ sym (or-else-next b (sym e ∙ accepted))
 
 -- both of two joined checks accept where the whole does
-pub both-accepted : (a b : Check) → or_else a b ≡ Accepted → (a ≡ Accepted) × (b ≡ Accepted)
+pub both-accepted : (a b : Check) → or_else a b ≡ accepted → (a ≡ accepted) × (b ≡ accepted)
 unfolding or_else
-both-accepted Accepted b e = (refl, e)
-both-accepted (Refused n p) b e = not-accepted e
+both-accepted (Ok done) b e = (refl, e)
+both-accepted (Err x) b e = not-accepted e
 
 -- and back
-pub both-accept : {a b : Check} → a ≡ Accepted → b ≡ Accepted → or_else a b ≡ Accepted
+pub both-accept : {a b : Check} → a ≡ accepted → b ≡ accepted → or_else a b ≡ accepted
 both-accept {a} {b} ha hb = or-else-next b ha ∙ hb
 
 -- a check that accepts changes nothing behind another
-pub or-else-accepted : (a : Check) → or_else a Accepted ≡ a
+pub or-else-accepted : (a : Check) → or_else a accepted ≡ a
 unfolding or_else
-or-else-accepted Accepted = refl
-or-else-accepted (Refused n p) = refl
+or-else-accepted (Ok done) = refl
+or-else-accepted (Err x) = refl
 
 -- three checks may be joined from either end
 pub or-else-assoc : (a b c : Check) → or_else (or_else a b) c ≡ or_else a (or_else b c)
 unfolding or_else
-or-else-assoc Accepted b c = refl
-or-else-assoc (Refused n p) b c = refl
+or-else-assoc (Ok done) b c = refl
+or-else-assoc (Err x) b c = refl
 
 -- a check that either accepts or refuses with 2 at 0, in front of one that refuses so
-pub two-or-accepted : (b : Bool) (next : Check) → next ≡ Refused lists_differ 0 → or_else (unless b lists_differ 0) next ≡ Refused lists_differ 0
+pub two-or-accepted : (b : Bool) (next : Check) → next ≡ refusal ListsDiffer 0 → or_else (unless b ListsDiffer 0) next ≡ refusal ListsDiffer 0
 unfolding or_else unless
 two-or-accepted true next e = e
 two-or-accepted false next e = refl
 
 -- the test holds where it is accepted
-pub unless-accepted : (good : Bool) (number place : ℕ) → unless good number place ≡ Accepted → good ≡ true
+pub unless-accepted : (good : Bool) (fault : Fault) (place : ℕ) → unless good fault place ≡ accepted → good ≡ true
 unfolding unless
-unless-accepted true number place e = refl
-unless-accepted false number place e = not-accepted e
+unless-accepted true fault place e = refl
+unless-accepted false fault place e = not-accepted e
 
-pub unless-accepts : (good : Bool) (number place : ℕ) → good ≡ true → unless good number place ≡ Accepted
+pub unless-accepts : (good : Bool) (fault : Fault) (place : ℕ) → good ≡ true → unless good fault place ≡ accepted
 unfolding unless
-unless-accepts good number place e = rw e
+unless-accepts good fault place e = rw e
 
 -- where the test fails, it is refused
-pub unless-refuses : (good : Bool) (number place : ℕ) → good ≡ false → unless good number place ≡ Refused number place
+pub unless-refuses : (good : Bool) (fault : Fault) (place : ℕ) → good ≡ false → unless good fault place ≡ refusal fault place
 unfolding unless
-unless-refuses good number place e = rw e
+unless-refuses good fault place e = rw e
 
 -- both halves of a test
 pub both_true : (a b : Bool) → a && b ≡ true → (a ≡ true) × (b ≡ true)
@@ -97,15 +99,15 @@ pub true-between : (low high n : ℕ) → low ≤ n → n ≤ high → is_betwee
 unfolding is_between_of
 true-between low high n l h = simp (le-leb _ _ l, le-leb _ _ h)
 
--- The scan: number, test, start and count of places are fixed.
-module _ (number : ℕ) (good : ℕ → Bool) where
+-- The scan: fault, test, start and count of places are fixed.
+module _ (fault : Fault) (good : ℕ → Bool) where
   -- one place that passes is left behind
-  first_good : (start n : ℕ) → good start ≡ true → first_bad_from number good start (suc n) ≡ first_bad_from number good (suc start) n
+  first_good : (start n : ℕ) → good start ≡ true → first_bad_from fault good start (suc n) ≡ first_bad_from fault good (suc start) n
   unfolding first_bad_from
-  first_good start n e = or-else-next _ (unless-accepts (good start) number start e)
+  first_good start n e = or-else-next _ (unless-accepts (good start) fault start e)
 
   -- the test holds at every place: accepted
-  pub all-good : (start n : ℕ) → ((i : ℕ) → start ≤ i → i < start + n → good i ≡ true) → first_bad_from number good start n ≡ Accepted
+  pub all-good : (start n : ℕ) → ((i : ℕ) → start ≤ i → i < start + n → good i ≡ true) → first_bad_from fault good start n ≡ accepted
   unfolding first_bad_from
   all-good start zero h = refl
   all-good start (suc n) h =
@@ -113,12 +115,12 @@ module _ (number : ℕ) (good : ℕ → Bool) where
       ∙ all-good (suc start) n (λ i l u. h i (omega arith) (omega arith))
 
   -- a place that fails is refused
-  bad-first : (start n : ℕ) → good start ≡ false → first_bad_from number good start (suc n) ≡ Refused number start
+  bad-first : (start n : ℕ) → good start ≡ false → first_bad_from fault good start (suc n) ≡ refusal fault start
   unfolding first_bad_from
-  bad-first start n e = or-else-refused _ (unless-refuses (good start) number start e)
+  bad-first start n e = or-else-refused _ (unless-refuses (good start) fault start e)
 
   -- the test holds up to k and fails at k: refused at k
-  pub first-bad : (start n k : ℕ) → start ≤ k → k < start + n → ((i : ℕ) → start ≤ i → i < k → good i ≡ true) → good k ≡ false → first_bad_from number good start n ≡ Refused number k
+  pub first-bad : (start n k : ℕ) → start ≤ k → k < start + n → ((i : ℕ) → start ≤ i → i < k → good i ≡ true) → good k ≡ false → first_bad_from fault good start n ≡ refusal fault k
   first-bad start zero k from to passed bad = absurd (omega arith)
   first-bad start (suc n) k from to passed bad =
       ⊎_elim (λ same. rw same (bad-first k n bad))
@@ -128,29 +130,29 @@ module _ (number : ℕ) (good : ℕ → Bool) where
       (eq-or-lt_of_le from)
 
   -- accepted: the test holds at every place
-  pub good-at : (start n : ℕ) → first_bad_from number good start n ≡ Accepted → (i : ℕ) → start ≤ i → i < start + n → good i ≡ true
+  pub good-at : (start n : ℕ) → first_bad_from fault good start n ≡ accepted → (i : ℕ) → start ≤ i → i < start + n → good i ≡ true
   unfolding first_bad_from
   good-at start zero e i from to = absurd (omega arith)
   good-at start (suc n) e i from to =
-      let both = both-accepted (unless (good start) number start) (first_bad_from number good (suc start) n) e in
-      ⊎_elim (λ same. rw (← same) (unless-accepted (good start) number start both.0))
+      let both = both-accepted (unless (good start) fault start) (first_bad_from fault good (suc start) n) e in
+      ⊎_elim (λ same. rw (← same) (unless-accepted (good start) fault start both.0))
       (λ more. good-at (suc start) n both.1 i (omega arith) (omega arith))
       (eq-or-lt_of_le from)
 
   -- the same of the indices below n
-  pub good-below : (n : ℕ) → first_bad number good n ≡ Accepted → (i : ℕ) → i < n → good i ≡ true
+  pub good-below : (n : ℕ) → first_bad fault good n ≡ accepted → (i : ℕ) → i < n → good i ≡ true
   unfolding first_bad
   good-below n e i h = good-at 0 n e i (omega arith) (omega arith)
 
-  pub below-good : (n : ℕ) → ((i : ℕ) → i < n → good i ≡ true) → first_bad number good n ≡ Accepted
+  pub below-good : (n : ℕ) → ((i : ℕ) → i < n → good i ≡ true) → first_bad fault good n ≡ accepted
   unfolding first_bad
   below-good n h = all-good 0 n (λ i l u. h i (omega arith))
 
   -- and of the indices below n that have a forerunner
-  pub good-behind : (n : ℕ) → first_bad_from number good 1 (pred n) ≡ Accepted → (k : ℕ) → suc k < n → good (suc k) ≡ true
+  pub good-behind : (n : ℕ) → first_bad_from fault good 1 (pred n) ≡ accepted → (k : ℕ) → suc k < n → good (suc k) ≡ true
   good-behind n e k h = good-at 1 (pred n) e (suc k) (omega arith) (omega arith)
 
-  pub behind-good : (n : ℕ) → ((k : ℕ) → suc k < n → good (suc k) ≡ true) → first_bad_from number good 1 (pred n) ≡ Accepted
+  pub behind-good : (n : ℕ) → ((k : ℕ) → suc k < n → good (suc k) ≡ true) → first_bad_from fault good 1 (pred n) ≡ accepted
   behind-good n h = all-good 1 (pred n) at
     where
       at : (i : ℕ) → 1 ≤ i → i < 1 + pred n → good i ≡ true
@@ -177,9 +179,9 @@ module _ (number : ℕ) (good : ℕ → Bool) where
       }
 
   -- the loop stops at a place that fails
-  pub scan-stops : {start n k : ℕ} → Scanned start n k → k < start + n → good k ≡ false → first_bad_from number good start n ≡ Refused number k
+  pub scan-stops : {start n k : ℕ} → Scanned start n k → k < start + n → good k ≡ false → first_bad_from fault good start n ≡ refusal fault k
   scan-stops {start} {n} {k} s to e = first-bad start n k s.from to s.passed e
 
   -- or has come to the end
-  pub scan-ends : {start n k : ℕ} → Scanned start n k → start + n ≤ k → first_bad_from number good start n ≡ Accepted
+  pub scan-ends : {start n k : ℕ} → Scanned start n k → start + n ≤ k → first_bad_from fault good start n ≡ accepted
   scan-ends {start} {n} {k} s end = all-good start n (λ i l u. s.passed i l (omega arith))

@@ -1,4 +1,5 @@
 -- In a list laid out, what lies on one edge is one part: from where the lower edges end to where the edge itself ends.
+use Rattle.model.specs.Refusal.{accepted}
 use mathlib.Core.Bool.{Bool, true, false, cond, true≢false}
 use mathlib.Core.List.{List, [], ◌∷◌}
 use mathlib.Core.Path.{◌≡◌, ◌∙◌, refl, sym, ap, ap₂}
@@ -17,7 +18,6 @@ use Rattle.model.specs.Checks.{laid_out_check}
 use Rattle.model.specs.Counting.{count_if, one_if}
 use Rattle.model.specs.Events.{Event, event, before, having, set_size}
 use Rattle.model.specs.Network.{Network}
-use Rattle.model.specs.declared.check.Check.TheVariants.{Accepted}
 
 -- as much stands beside a number as it has entries
 pub having-length : {A : Type 0} (s : ℕ) (sets : List ℕ) (xs : List A) → length sets ≡ length xs → length (having s sets xs) ≡ set_size sets s
@@ -115,7 +115,7 @@ rise-by-one es step k (suc j) h l = go (ℕ_discrete k (suc j)) (λ m. rise-by-o
     go (no e) ih = le_trans (ih (omega arith)) (step j l)
 
 -- the edges of a list accepted as laid out rise
-pub laid-out-rise : (net : Network) (es xs : List ℕ) (edge : ℕ) → laid_out_check net es xs edge ≡ Accepted → Rise es
+pub laid-out-rise : (net : Network) (es xs : List ℕ) (edge : ℕ) → laid_out_check net es xs edge ≡ accepted → Rise es
 unfolding laid_out_check
 laid-out-rise net es xs edge h =
     let order = (both-accepted _ _ (both-accepted _ _ (both-accepted _ _ (both-accepted _ _ (both-accepted _ _ h).1).1).1).1).1 in

@@ -1,4 +1,7 @@
 -- The claim put together from what its parts promise.
+use Rattle.model.specs.Refusal.{Check, accepted}
+use Rattle.model.specs.declared.refusal.Refusal.{Refusal}
+use Rattle.std.specs.Prelude.{Err}
 use mathlib.Core.Bool.{Bool, true, false}
 use mathlib.Core.List.{List}
 use mathlib.Core.Path.{◌≡◌, refl, sym, ap, ap₂, ◌∙◌}
@@ -16,8 +19,6 @@ use Rattle.model.specs.Events.{events, having, greatest_set_of, set_count}
 use Rattle.model.specs.Limits.{max_set, max_events}
 use Rattle.model.specs.Location.{at_first, at_second}
 use Rattle.model.specs.Network.{Network}
-use Rattle.model.specs.declared.check.Check.{Check}
-use Rattle.model.specs.declared.check.Check.TheVariants.{Accepted, Refused}
 use Rattle.model.proofs.Laws.Refusal.{not-accepted}
 use Rattle.sweep.proofs.Laws.Claim.{moves-one-way}
 use Rattle.sweep.specs.Answers.{marked, marked_if, route_moves, cursors_check, cursor_positions, cursor_moves, CursorsAnswered}
@@ -60,7 +61,7 @@ module _ {net : Network} {es xs : List ℕ} {e f t bound : ℕ} (one_way : Moves
   unfolding cursor_moves
   six-long = refl
 
-moves-few : {net : Network} {es xs : List ℕ} {e f t bound : ℕ} {verdict : Check} {ms' : List ℕ} (ms : List ℕ) → verdict ≡ Accepted → ms' ≡ written verdict (cursor_moves net es xs e f t bound) ms → MovesOneWay net es xs e f t bound → (c : ℕ) → c < 6 → get_or ms' c 0 ≤ suc (length (having f es xs))
+moves-few : {net : Network} {es xs : List ℕ} {e f t bound : ℕ} {verdict : Check} {ms' : List ℕ} (ms : List ℕ) → verdict ≡ accepted → ms' ≡ written verdict (cursor_moves net es xs e f t bound) ms → MovesOneWay net es xs e f t bound → (c : ℕ) → c < 6 → get_or ms' c 0 ≤ suc (length (having f es xs))
 unfolding written
 moves-few {net} {es} {xs} {e} {f} {t} {bound} ms told is one_way c h =
     rw (is, told, get_or-append (cursor_moves net es xs e f t bound) _ 0 c (rw (six-long one_way) h)) (six-few one_way c h)
@@ -80,11 +81,11 @@ pub record Verdicts (net : Network) (sets es xs ts : List ℕ) (s e f : ℕ) (ra
 
 -- what acceptance says
 pub record Taken (net : Network) (sets es xs ts : List ℕ) (s e f : ℕ) (ps ms edges offsets bounds set_runs_of table : List ℕ) (room : ℕ) : Type 0 where
-  pub checked : counts_check net sets es xs ts room ≡ Accepted
+  pub checked : counts_check net sets es xs ts room ≡ accepted
   pub lists : Prepared net sets es xs ts edges offsets bounds set_runs_of table
   pub small : s ≤ max_set
-  pub first_edge : lone_edge_check net e ≡ Accepted
-  pub second_edge : lone_edge_check net f ≡ Accepted
+  pub first_edge : lone_edge_check net e ≡ accepted
+  pub second_edge : lone_edge_check net f ≡ accepted
   pub positions-room : 6 * on_edge_of sets es s e ≤ length ps
   pub moves-room : 6 ≤ length ms
 
@@ -95,7 +96,7 @@ module _ {net : Network} {sets es xs ts : List ℕ} {s e f : ℕ} {ranged augmen
       v.verdict-is
       ∙ ap₂ lowest v.roomy-is (v.inner-is ∙ ap₂ lowest v.asked_is (v.ready.verdict ∙ ap (counts_check net sets es xs ts) v.room-is))
 
-  pub taken : verdict ≡ Accepted → Taken net sets es xs ts s e f ps ms edges offsets bounds set_runs_of table room
+  pub taken : verdict ≡ accepted → Taken net sets es xs ts s e f ps ms edges offsets bounds set_runs_of table room
   taken told =
       let outer = lowest-accepted v.roomy v.inner (sym v.verdict-is ∙ told) in
       let both = lowest-accepted v.asked v.counted (sym v.inner-is ∙ outer.1) in
@@ -113,7 +114,7 @@ module _ {net : Network} {sets es xs ts : List ℕ} {s e f : ℕ} {ranged augmen
       }
 
   -- on refusal every list is as it was
-  pub refused-claim : {t number place : ℕ} → verdict ≡ Refused number place → PairCountsAnswered net sets es xs ts s t e f ranged augmented shared ps ms verdict ranged augmented shared ps ms
+  pub refused-claim : {t : ℕ} {x : Refusal} → verdict ≡ Err x → PairCountsAnswered net sets es xs ts s t e f ranged augmented shared ps ms verdict ranged augmented shared ps ms
   refused-claim told =
       record {
         verdict = verdict-whole;
@@ -164,11 +165,11 @@ module _ {net : Network} {sets es xs ts : List ℕ} {s e f : ℕ} {ps ms edges o
           omega (arith, w.lists.runs.few, all.sets-are.are-events.few)
 
   -- what a method wrote
-  pub table_is : {verdict r : Check} {old new : List ℕ} → verdict ≡ Accepted → room ≤ length old → CountsAnswered net sets es xs ts old r new → new ≡ written verdict (count_table net sets (events es xs) ts) old
+  pub table_is : {verdict r : Check} {old new : List ℕ} → verdict ≡ accepted → room ≤ length old → CountsAnswered net sets es xs ts old r new → new ≡ written verdict (count_table net sets (events es xs) ts) old
   table_is {old = old} told fits answered =
       answered.after ∙ ap (λ (c : Check). written c (count_table net sets (events es xs) ts) old) (roomier net sets es xs ts room (length old) fits w.checked ∙ sym told)
 
-  pub joined_is : {verdict : Check} {new : List ℕ} (old : List ℕ) → new ≡ written verdict (count_table net sets (events es xs) ts) old → verdict ≡ Accepted → AllJoined net sets es xs ts new
+  pub joined_is : {verdict : Check} {new : List ℕ} (old : List ℕ) → new ≡ written verdict (count_table net sets (events es xs) ts) old → verdict ≡ accepted → AllJoined net sets es xs ts new
   joined_is {verdict} {new} old is told =
       record { joined = λ u k h l. entry-joined net sets (events es xs) ts all.sets-are.is-network.ends verdict old new u k told is h l }
 
@@ -181,23 +182,23 @@ module _ {net : Network} {sets es xs ts : List ℕ} {s e f : ℕ} {ps ms edges o
   unfolding set_part
   part-offsets = rw (add-one s) (offsets-part all.sets-are w.lists s (leb s (greatest_set_of sets)) refl)
 
-  cursors-checked : cursors_check net (set_edges sets es xs s) (set_offsets sets es xs s) e f ps ms ≡ Accepted
+  cursors-checked : cursors_check net (set_edges sets es xs s) (set_offsets sets es xs s) e f ps ms ≡ accepted
   cursors-checked =
       cursors-accept all.sets-are w.lists s (leb s (greatest_set_of sets)) refl e f ps ms w.positions-room w.moves-room w.first_edge w.second_edge
 
   pub cursors-are : {t : ℕ} {r : Check} {ps' ms' : List ℕ} → CursorsAnswered net (set_part sets set_runs_of bounds s edges) (set_part sets set_runs_of bounds s offsets) e f t (greatest ts) ps ms r ps' ms' → CursorsAnswered net (set_edges sets es xs s) (set_offsets sets es xs s) e f t (greatest ts) ps ms r ps' ms'
   cursors-are answered = rw (part-edges, part-offsets) at answered
 
-  pub positions_are : {verdict : Check} {t : ℕ} {r : Check} {ps' ms' : List ℕ} → verdict ≡ Accepted → CursorsAnswered net (set_edges sets es xs s) (set_offsets sets es xs s) e f t (greatest ts) ps ms r ps' ms' → ps' ≡ written verdict (cursor_positions net (set_edges sets es xs s) (set_offsets sets es xs s) e f t (greatest ts)) ps
+  pub positions_are : {verdict : Check} {t : ℕ} {r : Check} {ps' ms' : List ℕ} → verdict ≡ accepted → CursorsAnswered net (set_edges sets es xs s) (set_offsets sets es xs s) e f t (greatest ts) ps ms r ps' ms' → ps' ≡ written verdict (cursor_positions net (set_edges sets es xs s) (set_offsets sets es xs s) e f t (greatest ts)) ps
   positions_are {t = t} told answered =
       answered.positions_after ∙ ap (λ (c : Check). written c (cursor_positions net (set_edges sets es xs s) (set_offsets sets es xs s) e f t (greatest ts)) ps) (cursors-checked ∙ sym told)
 
-  pub moves_are : {verdict : Check} {t : ℕ} {r : Check} {ps' ms' : List ℕ} → verdict ≡ Accepted → CursorsAnswered net (set_edges sets es xs s) (set_offsets sets es xs s) e f t (greatest ts) ps ms r ps' ms' → ms' ≡ written verdict (cursor_moves net (set_edges sets es xs s) (set_offsets sets es xs s) e f t (greatest ts)) ms
+  pub moves_are : {verdict : Check} {t : ℕ} {r : Check} {ps' ms' : List ℕ} → verdict ≡ accepted → CursorsAnswered net (set_edges sets es xs s) (set_offsets sets es xs s) e f t (greatest ts) ps ms r ps' ms' → ms' ≡ written verdict (cursor_moves net (set_edges sets es xs s) (set_offsets sets es xs s) e f t (greatest ts)) ms
   moves_are {t = t} told answered =
       answered.moves_after ∙ ap (λ (c : Check). written c (cursor_moves net (set_edges sets es xs s) (set_offsets sets es xs s) e f t (greatest ts)) ms) (cursors-checked ∙ sym told)
 
 -- on acceptance: the whole claim
-module _ {net : Network} {sets es xs ts : List ℕ} {s e f : ℕ} {ranged augmented shared ps ms edges offsets bounds set_runs_of table : List ℕ} {room : ℕ} {verdict : Check} (v : Verdicts net sets es xs ts s e f ranged augmented shared ps ms edges offsets bounds set_runs_of table room verdict) (told : verdict ≡ Accepted) where
+module _ {net : Network} {sets es xs ts : List ℕ} {s e f : ℕ} {ranged augmented shared ps ms edges offsets bounds set_runs_of table : List ℕ} {room : ℕ} {verdict : Check} (v : Verdicts net sets es xs ts s e f ranged augmented shared ps ms edges offsets bounds set_runs_of table room verdict) (told : verdict ≡ accepted) where
   pub accepted-claim : {t : ℕ} {r : Check} {ranged' augmented' shared' ps' ms' : List ℕ} → Counted net sets es xs ts ranged ranged' → Counted net sets es xs ts augmented augmented' → Counted net sets es xs ts shared shared' → CursorsAnswered net (set_part sets set_runs_of bounds s edges) (set_part sets set_runs_of bounds s offsets) e f t (greatest ts) ps ms r ps' ms' → PairCountsAnswered net sets es xs ts s t e f ranged augmented shared ps ms verdict ranged' augmented' shared' ps' ms'
   accepted-claim by_range_of by_augmentation_of by_sharing_of swept =
       let w = taken v told in

@@ -83,19 +83,19 @@ module _ (edges bounds : List ℕ) (r b : ℕ) (cut : Cut edges bounds r) (room 
         few = rw last (omega (arith, cut.few));
       }
 
--- the state of the loop that cuts one set: r runs, and the events from the last bound to place k on one edge
+-- the state of the loop that cuts one set: r runs, and the events from the last bound up to before place k on one edge
 pub record CutSoFar (edges bounds : List ℕ) (runs to : ℕ) (bounds' : List ℕ) (r k : ℕ) : Type 0 where
   pub cut : Cut edges bounds' r
   pub more : runs ≤ r
   pub kept : (q : ℕ) → q ≤ runs → get_or bounds' q 0 ≡ get_or bounds q 0
-  pub reached : get_or bounds' r 0 ≤ k
-  pub within : k ≤ to
-  pub on_edge : (j : ℕ) → get_or bounds' r 0 ≤ j → j ≤ k → get_or edges j 0 ≡ get_or edges (get_or bounds' r 0) 0
-  pub closed : k ≡ to → get_or bounds' r 0 ≡ to
+  pub reached : get_or bounds' r 0 < k
+  pub within : k ≤ suc to
+  pub on_edge : (j : ℕ) → get_or bounds' r 0 ≤ j → j < k → get_or edges j 0 ≡ get_or edges (get_or bounds' r 0) 0
+  pub closed : k ≡ suc to → get_or bounds' r 0 ≡ to
   pub cuts : (q : ℕ) → runs < q → q ≤ r → ends_run_of edges to (get_or bounds' q 0) ≡ true
 
 module _ (edges bounds : List ℕ) (runs from to : ℕ) (asked : Cuttable edges bounds runs from to) where
-  pub cut-begins : CutSoFar edges bounds runs to bounds runs from
+  pub cut-begins : CutSoFar edges bounds runs to bounds runs (suc from)
   cut-begins =
       let begins = asked.begins in
       let in_order = asked.in_order in
@@ -104,41 +104,41 @@ module _ (edges bounds : List ℕ) (runs from to : ℕ) (asked : Cuttable edges 
         more = omega arith;
         kept = λ q h. refl;
         reached = omega arith;
-        within = in_order;
+        within = omega arith;
         on_edge = λ j low high. ap (λ (n : ℕ). get_or edges n 0) (omega arith);
-        closed = λ e. begins ∙ e;
+        closed = λ e. omega arith;
         cuts = λ q h l. absurd (omega arith);
       }
 
-  module _ (bounds' : List ℕ) (r k : ℕ) (long : length bounds' ≡ length bounds) (so_far : CutSoFar edges bounds runs to bounds' r k) (inside : k < to) where
+  module _ (bounds' : List ℕ) (r k : ℕ) (long : length bounds' ≡ length bounds) (so_far : CutSoFar edges bounds runs to bounds' r k) (inside : k ≤ to) where
     pub run_room : suc r < length bounds'
     run_room = omega (arith, so_far.cut.few, so_far.reached, asked.room)
 
-    -- the run ends at the next place
-    pub cut-here : ends_run_of edges to (suc k) ≡ true → CutSoFar edges bounds runs to (set bounds' (suc r) (suc k)) (suc r) (suc k)
+    -- the run ends at this place
+    pub cut-here : ends_run_of edges to k ≡ true → CutSoFar edges bounds runs to (set bounds' (suc r) k) (suc r) (suc k)
     cut-here ends =
         let reached = so_far.reached in
         let more = so_far.more in
-        let last : get_or (set bounds' (suc r) (suc k)) (suc r) 0 ≡ suc k = get_or-set_same bounds' (suc r) (suc k) 0 run_room in
+        let last : get_or (set bounds' (suc r) k) (suc r) 0 ≡ k = get_or-set_same bounds' (suc r) k 0 run_room in
         record {
-          cut = one-run-more edges bounds' r (suc k) so_far.cut run_room (omega arith) (λ j low high. so_far.on_edge j low (omega arith));
+          cut = one-run-more edges bounds' r k so_far.cut run_room reached so_far.on_edge;
           more = omega arith;
-          kept = λ q h. kept-below bounds' (suc r) (suc k) q (omega arith) ∙ so_far.kept q h;
+          kept = λ q h. kept-below bounds' (suc r) k q (omega arith) ∙ so_far.kept q h;
           reached = omega arith;
           within = omega arith;
           on_edge = λ j low high. ap (λ (n : ℕ). get_or edges n 0) (omega arith);
-          closed = λ e. last ∙ e;
+          closed = λ e. omega arith;
           cuts = λ q h l.
-              ⊎_elim (λ same. ap (ends_run_of edges to) (ap (λ (n : ℕ). get_or (set bounds' (suc r) (suc k)) n 0) same ∙ last) ∙ ends)
-              (λ less. rw (kept-below bounds' (suc r) (suc k) q less) (so_far.cuts q h (omega arith)))
+              ⊎_elim (λ same. ap (ends_run_of edges to) (ap (λ (n : ℕ). get_or (set bounds' (suc r) k) n 0) same ∙ last) ∙ ends)
+              (λ less. rw (kept-below bounds' (suc r) k q less) (so_far.cuts q h (omega arith)))
               (eq-or-lt_of_le {n = q} {m = suc r} l);
         }
 
     -- it goes on
-    pub cut_later : ends_run_of edges to (suc k) ≡ false → CutSoFar edges bounds runs to bounds' r (suc k)
+    pub cut_later : ends_run_of edges to k ≡ false → CutSoFar edges bounds runs to bounds' r (suc k)
     cut_later e =
         let reached = so_far.reached in
-        let goes_on = run-goes-on edges to (suc k) e in
+        let goes_on = run-goes-on edges to k e in
         record {
           cut = so_far.cut;
           more = so_far.more;
@@ -146,14 +146,14 @@ module _ (edges bounds : List ℕ) (runs from to : ℕ) (asked : Cuttable edges 
           reached = omega arith;
           within = omega arith;
           on_edge = λ j low high.
-              ⊎_elim (λ same. rw same (goes_on.1 ∙ so_far.on_edge k reached (omega arith)))
-              (λ less. so_far.on_edge j low (omega arith))
-              (eq-or-lt_of_le {n = j} {m = suc k} high);
-          closed = λ last. absurd (goes_on.0 last);
+              ⊎_elim (λ same. rw same (goes_on.1 ∙ so_far.on_edge (pred k) (omega arith) (omega arith)))
+              (λ less. so_far.on_edge j low less)
+              (eq-or-lt_of_le {n = j} {m = k} (omega arith));
+          closed = λ last. absurd (goes_on.0 (omega arith));
           cuts = so_far.cuts;
         }
 
-  pub cut-ends : (bounds' : List ℕ) (r k : ℕ) → CutSoFar edges bounds runs to bounds' r k → to ≤ k → CutTo edges bounds runs to r bounds'
+  pub cut-ends : (bounds' : List ℕ) (r k : ℕ) → CutSoFar edges bounds runs to bounds' r k → to < k → CutTo edges bounds runs to r bounds'
   cut-ends bounds' r k so_far h =
       let within = so_far.within in
       record { cut = so_far.cut; ends = so_far.closed (omega arith); more = so_far.more; kept = so_far.kept; cuts = so_far.cuts }

@@ -1,4 +1,6 @@
 -- The rows of the ends of the events' edges: marked, searched and found in the table.
+use Rattle.model.specs.Refusal.{Check, accepted}
+use Rattle.model.specs.declared.refusal.Fault.TheVariants.{ListsDiffer}
 use mathlib.Core.List.{List, ◌++◌}
 use mathlib.Core.Path.{◌≡◌, ap, ◌∙◌}
 use Prim.Native.Nat.{ℕ, pred, ◌*◌, ◌<◌}
@@ -12,9 +14,6 @@ use Rattle.model.proofs.Laws.Checks.{IsNetwork, network-accepted}
 use Rattle.model.proofs.Laws.Refusal.{both-accepted, both-accept, unless-accepts}
 use Rattle.model.specs.Checks.{network_check, room_check}
 use Rattle.model.specs.Network.{Network, IsNode, edges}
-use Rattle.model.specs.Refusal.{lists_differ}
-use Rattle.model.specs.declared.check.Check.{Check}
-use Rattle.model.specs.declared.check.Check.TheVariants.{Accepted}
 use Rattle.prepare.specs.Marking.{end_of, Markable, Unmarked, Marked, Endable, Filled, EndsFilled}
 use Rattle.prepare.specs.Prepared.{entry, NoEnd, TableKept}
 use Rattle.prepare.proofs.Laws.Table.{table-length, table-entry, table-other}
@@ -43,13 +42,13 @@ module _ (net : Network) (es table₀ : List ℕ) (asked : Endable net es table�
         ap (λ (l : List ℕ). entry net l (end_of ends es k) v) e
         ∙ table-entry net bound wanted table₀ asked.room (end_of ends es k) v (end-is-node k h) node rest (λ z. omega (arith, marks k h))
 
-  table-accepts : (wanted : List ℕ) → length wanted ≡ net.nodes → table_check net wanted table₀ ≡ Accepted
+  table-accepts : (wanted : List ℕ) → length wanted ≡ net.nodes → table_check net wanted table₀ ≡ accepted
   unfolding table_check network_check room_check
   table-accepts wanted e =
       let both = both-accepted _ _ asked.accepted in
       both-accept both.0
-      (both-accept (unless-accepts _ lists_differ 0 (eq-eqb _ _ e))
-      (both-accept (unless-accepts _ lists_differ 0 (le-leb _ _ asked.room)) both.1))
+      (both-accept (unless-accepts _ ListsDiffer 0 (eq-eqb _ _ e))
+      (both-accept (unless-accepts _ ListsDiffer 0 (le-leb _ _ asked.room)) both.1))
 
   module _ {bound : ℕ} {wanted first-marked wanted' : List ℕ} {r : Check} {table' : List ℕ} (firsts : Marked net.firsts es (length es) wanted first-marked)
       (seconds : Marked net.seconds es (length es) first-marked wanted') (long : length wanted' ≡ net.nodes) (answered : TableAnswered net bound wanted' table₀ r table') where

@@ -1,4 +1,5 @@
 -- Laying out the sets one after the other: how the loop goes.
+use Rattle.model.specs.Refusal.{Check, accepted}
 use mathlib.Core.List.{List, ◌++◌, map, map-append}
 use mathlib.Core.Logic.{⊎_elim}
 use mathlib.Core.Path.{◌≡◌, sym, ap, ap₂, ◌∙◌}
@@ -18,8 +19,6 @@ use Rattle.model.specs.Answer.{written}
 use Rattle.model.specs.Checks.{layout_check}
 use Rattle.model.specs.Events.{Event, events, having, sorted, set_size}
 use Rattle.model.specs.Limits.{max_events}
-use Rattle.model.specs.declared.check.Check.{Check}
-use Rattle.model.specs.declared.check.Check.TheVariants.{Accepted}
 use Rattle.prepare.specs.Laying.{SetFits, SetLaid, SetsFit, SetsLaid}
 use Rattle.prepare.specs.Prepared.{laid_out_set, grouped_from, start_of}
 use Rattle.prepare.proofs.Laws.Groups.{events-length, having-events, start_first, start-next, starts-rise, grouped-last}
@@ -29,8 +28,8 @@ module _ (sets es xs : List ℕ) (s : ℕ) (same : length es ≡ length xs) (n :
     (gathered : take n edges ≡ having s sets es) (beside : take n offsets ≡ having s sets xs)
     (edges_room : n ≤ length edges) (offsets_room : n ≤ length offsets) (few : n ≤ max_events)
     (r : Check) (edges' offsets' : List ℕ) (laid : LaidOut (take n edges) (take n offsets) r edges' offsets') where
-  accepted : layout_check (take n edges) (take n offsets) ≡ Accepted
-  accepted =
+  passed : layout_check (take n edges) (take n offsets) ≡ accepted
+  passed =
       layout-accepts _ _ (record { same_length = length-take-le n edges edges_room ∙ sym (length-take-le n offsets offsets_room); few = rw (length-take-le n edges edges_room) few })
 
   laid-events : sorted (events (take n edges) (take n offsets)) ≡ laid_out_set sets (events es xs) s
@@ -49,7 +48,7 @@ module _ (sets es xs : List ℕ) (s : ℕ) (same : length es ≡ length xs) (n :
       → old' ≡ written (layout_check (take n edges) (take n offsets)) (map f (sorted (events (take n edges) (take n offsets)))) (take n old)
       → take n (old' ++ drop n old) ≡ map f (laid_out_set sets (events es xs) s)
   put_back f old old' room e =
-      let whole = e ∙ written-whole _ _ accepted (omega (arith, laid-many f, length-take-le n old room)) in
+      let whole = e ∙ written-whole _ _ passed (omega (arith, laid-many f, length-take-le n old room)) in
       take_at old' (drop n old) n (ap length whole ∙ laid-many f) ∙ whole ∙ ap (map f) laid-events
 
   pub set-laid : n ≡ set_size sets s → SetLaid sets es xs s n (edges' ++ drop n edges) (offsets' ++ drop n offsets)

@@ -1,4 +1,5 @@
 -- The verdict of a counting method, put together from the checks that are made.
+use Rattle.model.specs.declared.refusal.Fault.TheVariants.{ListsDiffer}
 use mathlib.Core.Bool.{Bool, true, false}
 use mathlib.Core.List.{List}
 use mathlib.Core.Path.{◌≡◌, refl, sym, ◌∙◌}
@@ -13,8 +14,7 @@ use Rattle.model.proofs.Laws.Refusal.{or-else-next, or-else-refused, or-else-ass
 use Rattle.model.specs.Checks.{same_length_of, event_lists, set_lists, sets_over_network_check, network_values, set_numbers_check, event_values, equal_sets_check, thresholds_check}
 use Rattle.model.specs.Events.{set_count}
 use Rattle.model.specs.Network.{Network}
-use Rattle.model.specs.Refusal.{or_else, lists_differ}
-use Rattle.model.specs.declared.check.Check.TheVariants.{Accepted, Refused}
+use Rattle.model.specs.Refusal.{or_else, accepted, refusal}
 use Rattle.prepare.specs.Counts.{counts_check}
 
 -- two tests that follow from each other answer alike
@@ -33,17 +33,17 @@ quotient-test count n room h =
 
 module _ (net : Network) (sets es xs ts : List ℕ) (room : ℕ) where
   -- too little room is refused, whatever the lengths of the lists
-  pub no_room : leb (set_count sets * length ts) room ≡ false → Refused lists_differ 0 ≡ counts_check net sets es xs ts room
+  pub no_room : leb (set_count sets * length ts) room ≡ false → refusal ListsDiffer 0 ≡ counts_check net sets es xs ts room
   unfolding counts_check set_lists same_length_of event_lists
   no_room e =
-      sym (lists-first net (or-else-assoc _ _ _ ∙ two-or-accepted _ _ (two-or-accepted _ _ (or-else-refused _ (unless-refuses _ lists_differ 0 e)))))
+      sym (lists-first net (or-else-assoc _ _ _ ∙ two-or-accepted _ _ (two-or-accepted _ _ (or-else-refused _ (unless-refuses _ ListsDiffer 0 e)))))
 
   -- with room enough, the sets are checked and then the thresholds
   pub with-room : leb (set_count sets * length ts) room ≡ true → or_else (sets_over_network_check net sets es xs) (thresholds_check ts) ≡ counts_check net sets es xs ts room
   unfolding counts_check sets_over_network_check
   with-room e =
-      let roomy = or-else-next (or_else (network_values Accepted net)
-      (or_else (set_numbers_check sets) (or_else (event_values net es xs) (or_else (equal_sets_check sets) (thresholds_check ts))))) (unless-accepts (leb (set_count sets * length ts) room) lists_differ 0 e) in
+      let roomy = or-else-next (or_else (network_values accepted net)
+      (or_else (set_numbers_check sets) (or_else (event_values net es xs) (or_else (equal_sets_check sets) (thresholds_check ts))))) (unless-accepts (leb (set_count sets * length ts) room) ListsDiffer 0 e) in
       simp (roomy, or-else-assoc)
 
   -- accepted: so are the sets and the thresholds, and there is room
@@ -52,11 +52,11 @@ module _ (net : Network) (sets es xs ts : List ℕ) (room : ℕ) where
     pub thresholds-are : ThresholdsAccepted ts
     pub roomy : set_count sets * length ts ≤ room
 
-  pub counts-accepted : counts_check net sets es xs ts room ≡ Accepted → CountsAccepted
+  pub counts-accepted : counts_check net sets es xs ts room ≡ accepted → CountsAccepted
   unfolding counts_check
   counts-accepted e =
       let behind-lists = (both-accepted _ _ (both-accepted _ _ e).1).1 in
-      let roomy = unless-accepted (leb (set_count sets * length ts) room) lists_differ 0 (both-accepted _ _ behind-lists).0 in
+      let roomy = unless-accepted (leb (set_count sets * length ts) room) ListsDiffer 0 (both-accepted _ _ behind-lists).0 in
       let both = both-accepted (sets_over_network_check net sets es xs) (thresholds_check ts) (with-room roomy ∙ e) in
       record {
         sets-are = sets-accepted net sets es xs both.0;

@@ -1,14 +1,12 @@
 -- The parts of a line put one behind the other: there is room for each, and together they are the line.
-use mathlib.Core.Bool.{Bool, true, false}
-use mathlib.Core.List.{List, [], ◌∷◌, ◌++◌}
-use mathlib.Core.Path.{◌≡◌}
+use mathlib.Core.List.{List, ◌∷◌, ◌++◌}
 use Prim.Native.Nat.{ℕ}
 use Rattle.model.specs.Envelope.{Envelope}
 use Rattle.text.specs.Digits.{digits}
 use Rattle.text.specs.Fields.{comma}
 use Rattle.text.specs.Lines.{line_end_of}
 use Rattle.printing.specs.Bytes.{span, row, refused_word, refusal_line}
-use Rattle.printing.specs.Writing.{Room, Put, envelope_if}
+use Rattle.printing.specs.Writing.{Room, Put}
 use Rattle.printing.proofs.Laws.Writing.{Writing, begin, step, last, room_next, room-last}
 
 -- two parts
@@ -22,15 +20,6 @@ module _ (out : List ℕ) (place : ℕ) (xs ys : List ℕ) (room : Room out plac
 
     pub both-put : {out₂ : List ℕ} {r₂ : ℕ} → Put out₁ r₁ ys out₂ r₂ → Put out place (xs ++ ys) out₂ r₂
     both-put second = last ys (step xs ys (begin room) first) second
-
--- least and greatest are two fields, or two commas
-pub span-given : {comparisons : Bool} (least greatest : ℕ) → comparisons ≡ true → comma ∷ span (envelope_if comparisons least greatest) ≡ (comma ∷ digits least) ++ (comma ∷ digits greatest)
-unfolding span envelope_if
-span-given least greatest told = rw told
-
-pub span-empty : {comparisons : Bool} (least greatest : ℕ) → comparisons ≡ false → comma ∷ span (envelope_if comparisons least greatest) ≡ comma ∷ comma ∷ []
-unfolding span envelope_if
-span-empty least greatest told = rw told
 
 -- a row: threshold, observed, least and greatest, line end
 module _ (out : List ℕ) (place threshold observed : ℕ) (envelope : Envelope) (room : Room out place (row threshold observed envelope)) where

@@ -1,7 +1,7 @@
 -- The rows of a table, one after the other: how their room is counted and how they are put.
 use mathlib.Core.Bool.{Bool, true, false}
 use mathlib.Core.List.{List, [], ◌++◌}
-use mathlib.Core.Path.{◌≡◌, refl, sym, ap, subst, ◌∙◌}
+use mathlib.Core.Path.{◌≡◌, sym, ap, subst, ◌∙◌}
 use Prim.Native.Nat.{ℕ, suc, ◌+◌, ◌-◌, ◌≤◌, ◌<◌}
 use native.Mathlib.Nat.{sub-zero}
 use native.Mathlib.Numerals.{add-one}
@@ -11,19 +11,14 @@ use lib.Dec.{leb}
 use lib.ListN.{length, get_or, length-append}
 use Rattle.printing.specs.Bytes.{row}
 use Rattle.printing.specs.Answers.{envelope_at, rows}
-use Rattle.printing.specs.Writing.{Room, Put, envelope_if}
+use Rattle.printing.specs.Writing.{Room, Put}
 use Rattle.printing.proofs.Laws.Sizes.{fits-behind, too_long}
 use Rattle.printing.proofs.Laws.Writing.{Writing, begin, step, finish, room_next}
-
-same-envelope : (comparisons : Bool) (lower upper : List ℕ) (k : ℕ) → envelope_at comparisons lower upper k ≡ envelope_if comparisons (get_or lower k 0) (get_or upper k 0)
-unfolding envelope_at envelope_if
-same-envelope true lower upper k = refl
-same-envelope false lower upper k = refl
 
 module _ (comparisons : Bool) (ts observed lower upper : List ℕ) where
   -- the row of threshold number k
   abbrev pub row_at : ℕ → List ℕ
-  row_at k = row (get_or ts k 0) (get_or observed k 0) (envelope_if comparisons (get_or lower k 0) (get_or upper k 0))
+  row_at k = row (get_or ts k 0) (get_or observed k 0) (envelope_at comparisons lower upper k)
 
   -- the rows from number k on
   abbrev pub rows_from : ℕ → List ℕ
@@ -39,7 +34,7 @@ module _ (comparisons : Bool) (ts observed lower upper : List ℕ) where
   unfolding rows
   next_row k h =
       let more : length ts - k ≡ suc (length ts - (k + 1)) = omega arith in
-      rw (more, same-envelope, add-one)
+      rw (more, add-one)
 
   no_row : (k : ℕ) → length ts ≤ k → rows_from k ≡ []
   unfolding rows
@@ -47,11 +42,7 @@ module _ (comparisons : Bool) (ts observed lower upper : List ℕ) where
 
   -- while the room is counted: the rows fit in the room where those from k on fit in what is left
   pub record Fitting (room left k : ℕ) : Type 0 where
-    pub inside : k ≤ length ts
     pub same : leb (length all_rows) room ≡ leb (length (rows_from k)) left
-
-  pub fit-start : (room : ℕ) → Fitting room room 0
-  fit-start room = record { inside = omega arith; same = ap (λ (l : List ℕ). leb (length l) room) all-rows }
 
   module _ {room left k size : ℕ} (so : Fitting room left k) (h : k < length ts) (measured : size ≡ length (row_at k)) where
     left-length : length (rows_from k) ≡ size + length (rows_from (k + 1))
@@ -61,26 +52,17 @@ module _ (comparisons : Bool) (ts observed lower upper : List ℕ) where
     no-fit short = rw (so.same, left-length) (too_long size _ left short)
 
     pub fit-more : size ≤ left → Fitting room (left - size) (k + 1)
-    fit-more enough = record {
-      inside = omega arith;
-      same = so.same ∙ rw left-length (sym (fits-behind size _ left enough));
-    }
+    fit-more enough = record { same = so.same ∙ rw left-length (sym (fits-behind size _ left enough)) }
 
   pub all_fit : {room left k : ℕ} → Fitting room left k → length ts ≤ k → true ≡ leb (length all_rows) room
   all_fit {left = left} {k = k} so h = rw (so.same, no_row k h, le-leb 0 left (omega arith))
 
   -- while rows are put: those from k on are still to be put
   pub record PuttingRows (out₀ : List ℕ) (start : ℕ) (out : List ℕ) (place k : ℕ) : Type 0 where
-    pub inside : k ≤ length ts
-    pub same : length out ≡ length out₀
     pub writing : Writing out₀ start all_rows out place (rows_from k)
 
   pub rows_start : {out : List ℕ} {start : ℕ} → Room out start all_rows → PuttingRows out start out start 0
-  rows_start {out} {start} room = record {
-    inside = omega arith;
-    same = refl;
-    writing = subst (λ (l : List ℕ). Writing out start all_rows out start l) all-rows (begin room);
-  }
+  rows_start {out} {start} room = record { writing = subst (λ (l : List ℕ). Writing out start all_rows out start l) all-rows (begin room) }
 
   module _ {out₀ : List ℕ} {start : ℕ} {out : List ℕ} {place k : ℕ} (so : PuttingRows out₀ start out place k) where
     module _ (h : k < length ts) where
@@ -90,8 +72,8 @@ module _ (comparisons : Bool) (ts observed lower upper : List ℕ) where
       pub row_room : Room out place (row_at k)
       row_room = room_next (row_at k) (rows_from (k + 1)) now
 
-      pub row_put : {out' : List ℕ} {r : ℕ} → length out' ≡ length out → Put out place (row_at k) out' r → PuttingRows out₀ start out' r (k + 1)
-      row_put kept p = record { inside = omega arith; same = kept ∙ so.same; writing = step (row_at k) (rows_from (k + 1)) now p }
+      pub row_put : {out' : List ℕ} {r : ℕ} → Put out place (row_at k) out' r → PuttingRows out₀ start out' r (k + 1)
+      row_put p = record { writing = step (row_at k) (rows_from (k + 1)) now p }
 
     pub rows-put : length ts ≤ k → Put out₀ start all_rows out place
     rows-put h = finish (rw (no_row k h) at so.writing)

@@ -1,4 +1,5 @@
 -- Bytes put one behind the other come to the same list as all of them put at once.
+use Rattle.model.specs.Refusal.{Check, accepted}
 use mathlib.Core.List.{List, [], ◌∷◌, ◌++◌, append_assoc}
 use mathlib.Core.Path.{◌≡◌, refl, sym, ap, ◌∙◌}
 use Prim.Native.Nat.{ℕ, ◌+◌, ◌-◌, ◌≤◌, ◌<◌}
@@ -6,11 +7,9 @@ use native.Mathlib.Nat.{add-zero, zero-add}
 use native.Mathlib.Numerals.{add-one}
 use native.Mathlib.Omega.{arith}
 use borrow.Rule.Slice.PartMut.{put_mid, Post-is}
-use lib.ListN.{length, get_or, take, drop, set, length-append, length-drop, length-set, take-append-drop, drop_of_length-le}
+use lib.ListN.{length, get_or, take, drop, set, length-append, length-drop, take-append-drop, drop_of_length-le}
 use lib.Seq.{length-take-le, take_at, drop_at, drop-cons, drop-drop, set_split}
 use Rattle.model.specs.Answer.{written}
-use Rattle.model.specs.declared.check.Check.{Check}
-use Rattle.model.specs.declared.check.Check.TheVariants.{Accepted}
 use Rattle.printing.specs.Writing.{with_bytes, Room, Put}
 
 module _ (out : List ℕ) (place : ℕ) (xs : List ℕ) (inside : place ≤ length out) where
@@ -99,18 +98,17 @@ unfolding with_bytes
 put_one out place b h = record { after = rw add-one (set_split out place b h); next = refl }
 
 -- the bytes at the front are the answer
-pub put_written : {check : Check} (out bytes out' : List ℕ) (r : ℕ) → check ≡ Accepted → Put out 0 bytes out' r → out' ≡ written check bytes out
+pub put_written : {check : Check} (out bytes out' : List ℕ) (r : ℕ) → check ≡ accepted → Put out 0 bytes out' r → out' ≡ written check bytes out
 unfolding with_bytes written
 put_written out bytes out' r e p = p.after ∙ rw (e, zero-add)
 
 -- while bytes are copied one by one: those from i on are still to be put
 pub record Copying (out₀ : List ℕ) (place : ℕ) (bytes out : List ℕ) (i : ℕ) : Type 0 where
-  pub same : length out ≡ length out₀
   pub inside : i ≤ length bytes
   pub writing : Writing out₀ place bytes out (place + i) (drop i bytes)
 
 pub copy_start : {out : List ℕ} {place : ℕ} {bytes : List ℕ} → Room out place bytes → Copying out place bytes out 0
-copy_start {out} {place} {bytes} room = record { same = refl; inside = omega arith; writing = rw add-zero (begin room) }
+copy_start {out} {place} {bytes} room = record { inside = omega arith; writing = rw add-zero (begin room) }
 
 module _ {out₀ : List ℕ} {place : ℕ} {bytes out : List ℕ} {i : ℕ} (so : Copying out₀ place bytes out i) where
   pub copy-room : i < length bytes → place + i < length out
@@ -123,13 +121,14 @@ module _ {out₀ : List ℕ} {place : ℕ} {bytes out : List ℕ} {i : ℕ} (so 
       let now : Writing out₀ place bytes out (place + i) ((b ∷ []) ++ drop (i + 1) bytes) = rw left at so.writing in
       let next : place + i + 1 ≡ place + (i + 1) = omega arith in
       record {
-        same = length-set out (place + i) b ∙ so.same;
         inside = omega arith;
         writing = rw next at (step (b ∷ []) (drop (i + 1) bytes) now (put_one out (place + i) b (copy-room h)));
       }
 
-  pub copied : length bytes ≤ i → Put out₀ place bytes out (place + i)
-  copied h = finish (rw (drop_of_length-le bytes h) at so.writing)
+  pub copied : length bytes ≤ i → Put out₀ place bytes out (place + length bytes)
+  copied h =
+      let all : i ≡ length bytes = omega arith in
+      rw (← all) (finish (rw (drop_of_length-le bytes h) at so.writing))
 
 -- the bytes fill a part that was lent
 pub put-part : (out : List ℕ) (place n : ℕ) (bytes ys : List ℕ) → n ≡ length bytes → ys ≡ bytes → Put out place bytes (put_mid place (place + n - place) out ys) (place + n)

@@ -1,5 +1,6 @@
 -- The cells are filled one after the other: each names the one step that need be looked at.
-use mathlib.Core.Bool.{Bool, false}
+use Rattle.std.specs.Prelude.{Option, IfSome}
+use Rattle.std.proofs.lemmas.Option.{IfSome_then}
 use mathlib.Core.List.{List}
 use mathlib.Core.Path.{◌≡◌, refl, sym, ap, ◌∙◌}
 use Prim.Native.Nat.{ℕ, ◌+◌, ◌*◌, ◌^◌, ◌≤◌, ◌<◌}
@@ -11,25 +12,8 @@ use lib.ListN.{length, get_or, set, length-set}
 use lib.Seq.{get_or-set_same, get_or-set_other}
 use Rattle.model.specs.Limits.{max_thresholds}
 use Rattle.range_query.specs.Ladder.{last_step, shift_at, kind_at, first_cell, cell_count, last_cell, ladder_length, exact, shift_of, cell_of, named_by, Bracket, Level, Celled}
-use Rattle.range_query.specs.Spreading.{Skipped, Alone, Names, StepsKept, CellsFilled}
+use Rattle.range_query.specs.Spreading.{Skipped, Names, StepsKept, CellsFilled}
 use Rattle.range_query.proofs.Laws.Cells.{cell-to, in_cell}
-
--- nothing stands behind the last step
-pub alone-last : (ladder : List ℕ) {last c : ℕ} (endless : Bool) (end : ℕ) → c ≡ last → Alone ladder last c endless end
-alone-last ladder endless end e = record { ahead = λ d h j b m. absurd (omega arith) }
-
--- the next step admits whatever lies before the end
-pub alone-next : {ladder : List ℕ} {last c : ℕ} {endless : Bool} {end : ℕ} → last ≤ last_step → Level ladder → endless ≡ false → end ≤ get_or ladder (c + 1) 0 → Alone ladder last c endless end
-alone-next {c = c} few up closed h =
-    record { ahead = λ d b j m k. omega (arith, b closed, up.level (c + 1) j (omega arith) (omega arith)) }
-
--- one more step below so many metres
-pub skip-more : (ladder : List ℕ) (metres c k : ℕ) → ((j : ℕ) → c ≤ j → j < k → get_or ladder j 0 < metres) → get_or ladder k 0 < metres → (j : ℕ) → c ≤ j → j < k + 1 → get_or ladder j 0 < metres
-skip-more ladder metres c k passed here j h l = go (dec_lt j k)
-  where
-    go : Dec (j < k) → get_or ladder j 0 < metres
-    go (yes p) = passed j h p
-    go (no p) = let e : j ≡ k = omega arith in rw e here
 
 -- lists that agree on the steps and the shift
 pub kept-none : (old : List ℕ) → StepsKept old old
@@ -97,9 +81,9 @@ filling-none last old =
     record { begins = omega arith; in-steps = omega arith; passed = λ j h. absurd (omega arith); cells = cells-none last old }
 
 module _ {last : ℕ} {old : List ℕ} (long : length old ≡ ladder_length) (few : last ≤ last_step) where
-  -- one cell more: it is endless if it is the last
-  pub filling-more : {new : List ℕ} {c c' start k next step : ℕ} {endless : Bool} → Filling last old c start k new → k < cell_count → Skipped new start c last c' → next ≡ start + 2 ^ shift_of old → (endless ≡ false → k < last_cell) → Names new last c' endless next step → Filling last old c' next (k + 1) (set new (first_cell + k) step)
-  filling-more {new} {c} {c'} {start} {k} {next} {step} w h skipped e closed told =
+  -- one cell more: it has no end if it is the last
+  pub filling-more : {new : List ℕ} {c c' start k next step : ℕ} {end : Option ℕ} → Filling last old c start k new → k < cell_count → Skipped new start c last c' → next ≡ start + 2 ^ shift_of old → IfSome end (λ n. (n ≡ next) × (k < last_cell)) → Names new last c' end step → Filling last old c' next (k + 1) (set new (first_cell + k) step)
+  filling-more {new} {c} {c'} {start} {k} {next} {step} {end} w h skipped e closed told =
       record {
         begins = e ∙ (rw (add-one k) (ap (λ x. x + 2 ^ shift_of old) w.begins ∙ sym (suc-mul k (2 ^ shift_of old))));
         in-steps = skipped.in_list;
@@ -120,7 +104,7 @@ module _ {last : ℕ} {old : List ℕ} (long : length old ≡ ladder_length) (fe
           (record {
             fits = omega (arith, skipped.in_list);
             passed = λ j b. omega (arith, below j b (dec_lt j c), inside.0, w.begins);
-            ahead = λ j b m. rw (← w.cells.kept.at j (omega arith)) (a.ahead d (λ is. omega (arith, inside.1 (closed is), e, w.begins)) j (omega arith) m);
+            ahead = λ j b m. rw (← w.cells.kept.at j (omega arith)) (a.ahead d (IfSome_then end closed (λ n f. omega (arith, inside.1 f.1, e, w.begins, f.0))) j (omega arith) m);
           })
 
   -- all cells

@@ -1,7 +1,7 @@
 -- What is looked up in a ladder is the number of the steps that do not admit so many metres.
 use mathlib.Core.Bool.{Bool, true, false, cond}
 use mathlib.Core.List.{List}
-use mathlib.Core.Path.{◌≡◌, refl, sym, ap, ◌∙◌}
+use mathlib.Core.Path.{◌≡◌, refl, sym, ◌∙◌}
 use Prim.Native.Nat.{ℕ, suc, ◌+◌, ◌-◌, ◌≤◌, ◌<◌, min}
 use native.Mathlib.Decide.{ℕ_discrete, dec_lt}
 use native.Mathlib.Nat.{mod-lt}
@@ -10,34 +10,34 @@ use borrow.Author.Tests.{le-leb, lt-leb, lt-ltb, le-ltb, eq-eqb, ne_eqb}
 use lib.Dec.{eqb, leb, ltb}
 use lib.ListN.{length, get_or}
 use Rattle.model.specs.Limits.{max_thresholds}
-use Rattle.range_query.specs.Ladder.{last_step, shift_at, kind_at, last_cell, shift_end, exact, shift_of, cell_of, cells_of, narrowed, by_halves_of, named_by, by_steps_of, place_in, found_in, bucket_in, Bracket, Level, Celled, Placed, LadderOf}
-use Rattle.range_query.specs.declared.lookup.Cells.{Cells}
+use Rattle.range_query.specs.Ladder.{last_step, shift_at, kind_at, last_cell, shift_end, exact, shift_of, cells_of, narrowed, by_halves_of, named_by, by_steps_of, place_in, found_in, bucket_in, Bracket, Level, Celled, Placed, LadderOf}
+use Rattle.range_query.specs.declared.lookup.Cells.TheVariants.{EachMetre, Wide}
 
 -- what is read of a ladder
-module _ (ladder : List ℕ) {cells : Cells} (told : cells ≡ cells_of ladder) where
-  pub read-shift : cells.shift ≡ shift_of ladder
-  unfolding cells_of
-  read-shift = ap (λ (c : Cells). c.shift) told
+pub shift-to : (ladder : List ℕ) → shift_of ladder < shift_end
+shift-to ladder = mod-lt (get_or ladder shift_at 0) (omega arith)
 
-  pub shift-to : cells.shift < shift_end
-  shift-to = rw read-shift (mod-lt (get_or ladder shift_at 0) (omega arith))
+-- which of the two kinds the cells are of
+is-each : (b : Bool) (s : ℕ) → EachMetre ≡ cond b EachMetre (Wide s) → b ≡ true
+is-each true s e = refl
+is-each false s e = cc
 
-  read-exact : cells.exact ≡ eqb (get_or ladder kind_at 0) exact
-  unfolding cells_of
-  read-exact = ap (λ (c : Cells). c.exact) told
+is-wide : (b : Bool) (t s : ℕ) → Wide t ≡ cond b EachMetre (Wide s) → (b ≡ false) × (t ≡ s)
+is-wide true t s e = absurd (cc)
+is-wide false t s e = (refl, cc)
 
-  -- what is found by cells of one metre, and without them
-  pub found-place : cells.exact ≡ true → (d : ℕ) → found_in ladder d ≡ place_in ladder d
-  unfolding found_in
-  found-place h d = rw (← read-exact, h) refl
+-- what is found by cells of one metre, and without them
+pub found-place : (ladder : List ℕ) → EachMetre ≡ cells_of ladder → (d : ℕ) → found_in ladder d ≡ place_in ladder d
+unfolding cells_of found_in
+found-place ladder told d = rw (is-each (eqb (get_or ladder kind_at 0) exact) (shift_of ladder) told)
 
-  pub found-steps : cells.exact ≡ false → (d : ℕ) → found_in ladder d ≡ by_steps_of ladder d
-  unfolding found_in
-  found-steps h d = rw (← read-exact, h) refl
+pub found-steps : (ladder : List ℕ) {shift : ℕ} → Wide shift ≡ cells_of ladder → (d : ℕ) → found_in ladder d ≡ by_steps_of ladder d
+unfolding cells_of found_in
+found-steps ladder {shift} told d = rw ((is-wide (eqb (get_or ladder kind_at 0) exact) shift (shift_of ladder) told).0)
 
-  -- the cell of d
-  pub cell-is : {r : ℕ} (d : ℕ) → r ≡ cell_of cells.shift d → r ≡ cell_of (shift_of ladder) d
-  cell-is d e = e ∙ ap (λ (n : ℕ). cell_of n d) read-shift
+pub found-shift : (ladder : List ℕ) {shift : ℕ} → Wide shift ≡ cells_of ladder → shift ≡ shift_of ladder
+unfolding cells_of
+found-shift ladder {shift} told = (is-wide (eqb (get_or ladder kind_at 0) exact) shift (shift_of ladder) told).1
 
 -- b is the number of steps up to number last that do not admit d, or more than last
 pub record Bucket (last : ℕ) (ladder : List ℕ) (d b : ℕ) : Type 0 where

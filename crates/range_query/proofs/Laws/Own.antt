@@ -1,9 +1,9 @@
 -- The pairs of a run with itself: the events at one offset with each other, and twice with those before them.
-use mathlib.Core.Bool.{Bool, true, false, cond}
+use mathlib.Core.Bool.{Bool, cond}
 use mathlib.Core.List.{List}
 use mathlib.Core.Path.{◌≡◌, sym, ap, ◌∙◌}
 use Prim.Native.Nat.{ℕ, zero, suc, ◌+◌, ◌-◌, ◌*◌, ◌≤◌, ◌<◌, min}
-use native.Mathlib.Nat.{mul-add, add-mul, mul_assoc, mul-one, mul-zero}
+use native.Mathlib.Nat.{mul-add, add-mul, mul_assoc, mul-zero}
 use native.Mathlib.Omega.{arith}
 use lib.Dec.{leb}
 use lib.ListN.{length, get_or, take}
@@ -21,6 +21,8 @@ use Rattle.edge_pair.proofs.Laws.Totals.{added_none, added_then, added-as, chang
 use Rattle.range_query.specs.Ladder.{found_in, bucket_in}
 use Rattle.range_query.specs.Metres.{by_ends_of, metres_between, Mirrored, tallied}
 use Rattle.range_query.proofs.Laws.Lookup.{bucket-found}
+use Rattle.range_query.proofs.Laws.Pairs.{many-if}
+use Rattle.range_query.proofs.Laws.Parted.{Parted, behind, parted-many, parted-first, parted-equals}
 
 -- by any two ends, and back, where the offsets x and y lie r and q before the second end
 ends-mirrored : (x r y q a b c : ℕ) → min (min (x + a) (r + b) + y) (min (x + b) (r + c) + q) ≡ min (min (y + a) (q + b) + x) (min (y + b) (q + c) + r)
@@ -84,12 +86,6 @@ module _ (p : ℕ → ℕ → Bool) (turned : (x y : ℕ) → p x y ≡ p y x) (
           square-times : (m o : ℕ) → (m * m) * o ≡ m * (m * o)
           square-times m o = mul_assoc m m o
 
--- so many if a test holds
-pub many-if : (b : Bool) (m : ℕ) → cond b m 0 ≡ m * one_if b
-unfolding one_if
-many-if true m = sym (mul-one m)
-many-if false m = sym (mul-zero m)
-
 -- those of a part, and all of them
 count-part : (p : ℕ → Bool) (xs : List ℕ) (n : ℕ) → n ≤ length xs → count_if p (take n xs) ≡ count_below_of n (λ j. p (get_or xs j 0))
 count-part p xs n h =
@@ -110,7 +106,7 @@ module _ (ladder : List ℕ) (w : EdgePair) (xs : List ℕ) where
   unfolding sum_below square
   own-none totals = added_none max_thresholds totals
 
-  pub own-more : {from to place : ℕ} {old mid next new : List ℕ} → Mirrored w → Equals xs from to → place ≡ found_in ladder 0 → Added max_thresholds (λ k. square (up_to ladder w k) xs from) old mid → Added max_thresholds (λ k. (2 * (to - from)) * count_if (up_to ladder w k (get_or xs from 0)) (take from xs)) mid next → Changed place 0 ((to - from) * (to - from)) next new → Added max_thresholds (λ k. square (up_to ladder w k) xs to) old new
+  own-more : {from to place : ℕ} {old mid next new : List ℕ} → Mirrored w → Equals xs from to → place ≡ found_in ladder 0 → Added max_thresholds (λ k. square (up_to ladder w k) xs from) old mid → Added max_thresholds (λ k. (2 * (to - from)) * count_if (up_to ladder w k (get_or xs from 0)) (take from xs)) mid next → Changed place 0 ((to - from) * (to - from)) next new → Added max_thresholds (λ k. square (up_to ladder w k) xs to) old new
   own-more {from} {to} {place} mirrored run found a b c =
       added-as (λ k h. ap (λ (n : ℕ). square (up_to ladder w k) xs from + (2 * (to - from)) * n + cond (leb place k) ((to - from) * (to - from)) 0) (count-part (up_to ladder w k (get_or xs from 0)) xs from (omega (arith, run.further, run.within))) ∙ ap (λ (n : ℕ). square (up_to ladder w k) xs from + (2 * (to - from)) * count_below_of from (λ j. up_to ladder w k (get_or xs from 0) (get_or xs j 0)) + n) (selves k h) ∙ sym (square-more (up_to ladder w k) (turned k) xs run)) (added_then (added_then a b) (changed-added max_thresholds c))
     where
@@ -121,6 +117,11 @@ module _ (ladder : List ℕ) (w : EdgePair) (xs : List ℕ) where
       selves k h =
           many-if (leb place k) ((to - from) * (to - from))
           ∙ ap (λ (b : Bool). ((to - from) * (to - from)) * one_if b) (ap (λ (d : ℕ). leb d k) found ∙ sym (bucket-found ladder 0 k h) ∙ ap (λ (d : ℕ). leb (bucket_in ladder d) k) (sym (metres-none mirrored (get_or xs from 0))))
+
+  -- the events at one offset more
+  pub own-parted : {rest equals next : List ℕ} {place : ℕ} {old mid last new : List ℕ} → Mirrored w → Parted xs rest equals next → place ≡ found_in ladder 0 → Added max_thresholds (λ k. square (up_to ladder w k) xs (behind xs rest)) old mid → Added max_thresholds (λ k. (2 * length equals) * count_if (up_to ladder w k (get_or equals 0 0)) (take (behind xs rest) xs)) mid last → Changed place 0 (length equals * length equals) last new → Added max_thresholds (λ k. square (up_to ladder w k) xs (behind xs next)) old new
+  own-parted {last = last} mirrored parted found a b c =
+      own-more {next = last} mirrored (parted-equals parted) found a (rw (parted-many parted, ← parted-first parted) b) (rw (parted-many parted) c)
 
   pub own-all : {n : ℕ} {old new : List ℕ} → n ≡ length xs → Added max_thresholds (λ k. square (up_to ladder w k) xs n) old new → Added max_thresholds (tallied ladder w xs xs) old new
   unfolding tallied

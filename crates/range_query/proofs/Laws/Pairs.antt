@@ -1,19 +1,19 @@
 -- The pairs of two runs: those counted by their buckets are those within the thresholds.
 use mathlib.Core.Bool.{Bool, true, false, cond, ◌&&◌, ◌||◌}
-use mathlib.Core.List.{List}
+use mathlib.Core.List.{List, [], ◌∷◌}
 use mathlib.Core.Path.{◌≡◌, refl, sym, ap, ◌∙◌}
 use Prim.Native.Nat.{ℕ, ◌+◌, ◌-◌, ◌*◌, ◌<◌, min}
 use native.Mathlib.Nat.{mul-add, mul-one, mul-zero}
 use native.Mathlib.Omega.{arith}
 use lib.Dec.{leb}
-use lib.ListN.{length, get_or}
+use lib.ListN.{length, get_or, take}
+use Rattle.std.proofs.lemmas.List.{take_more}
 use Rattle.model.specs.Counting.{sum_below, one_if, count_below_of, count_if}
 use Rattle.model.specs.Distance.{least, within, difference}
 use Rattle.model.specs.Distance as distance
 use Rattle.model.specs.Limits.{max_thresholds}
 use Rattle.model.specs.Location.{at_first, at_second}
-use Rattle.model.proofs.Laws.Counting.{sum-next, sum-below-cong, count-cong, count-below-list}
-use Rattle.model.proofs.Laws.Equals.{Equals, sum-equals}
+use Rattle.model.proofs.Laws.Counting.{sum-next, sum-below-cong, count-cong, count-append}
 use Rattle.model.proofs.Laws.Within.{within-least}
 use Rattle.edge_pair.specs.Totals.{Added, Changed}
 use Rattle.edge_pair.specs.Ways.{to_end_of}
@@ -62,37 +62,42 @@ pub reached : {ts ladder old new : List ℕ} (w : EdgePair) (xs ys : List ℕ) �
 reached w xs ys l a =
     added-as (tallied-reached l w xs ys) (record { same_length = a.same_length; at = λ k h. a.at k (omega (arith, l.few)) })
 
--- one event at a time: those at one offset together
-module _ (n : ℕ) (g : ℕ → ℕ → ℕ) where
-  pub events-none : (xs totals : List ℕ) → Added n (λ k. sum_below 0 (λ i. g k (get_or xs i 0))) totals totals
-  unfolding sum_below
-  events-none xs totals = added_none n totals
+-- so many if a test holds
+pub many-if : (b : Bool) (m : ℕ) → cond b m 0 ≡ m * one_if b
+unfolding one_if
+many-if true m = sym (mul-one m)
+many-if false m = sym (mul-zero m)
 
-  pub events-more : {xs old mid new : List ℕ} {from to : ℕ} → Equals xs from to → Added n (λ k. sum_below from (λ i. g k (get_or xs i 0))) old mid → Added n (λ k. (to - from) * g k (get_or xs from 0)) mid new → Added n (λ k. sum_below to (λ i. g k (get_or xs i 0))) old new
-  events-more run a b = added-as (λ k h. sym (sum-equals (g k) run)) (added_then a b)
+-- one element more
+pub count-next : (test : ℕ → Bool) (ys : List ℕ) (j : ℕ) → j < length ys → count_if test (take (j + 1) ys) ≡ count_if test (take j ys) + one_if (test (get_or ys j 0))
+unfolding count_if
+count-next test ys j h =
+    omega (arith, ap (count_if test) (take_more ys j 0 h), count-append test (take j ys) (get_or ys j 0 ∷ []))
 
 -- a row: the offsets of the other run that f gives a bucket, each counted many times
 module _ (n many : ℕ) (f : ℕ → ℕ) (ys : List ℕ) where
-  pub row-none : (totals : List ℕ) → Added n (λ k. many * count_below_of 0 (λ j. leb (f (get_or ys j 0)) k)) totals totals
-  unfolding count_below_of sum_below
+  pub row-none : (totals : List ℕ) → Added n (λ k. many * count_if (λ y. leb (f y) k) (take 0 ys)) totals totals
+  unfolding count_if
   row-none totals = added-as (λ k h. sym (mul-zero many)) (added_none n totals)
 
+  pub row-onward : {old mid new : List ℕ} {place : ℕ} (j : ℕ) → j < length ys → place ≡ f (get_or ys j 0) → Added n (λ k. many * count_if (λ y. leb (f y) k) (take j ys)) old mid → Changed place 0 many mid new → Added n (λ k. many * count_if (λ y. leb (f y) k) (take (j + 1) ys)) old new
+  row-onward {place = place} j h e a c = added-as (λ k l. next k) (added_then a (changed-added n c))
+    where
+      next : (k : ℕ) → many * count_if (λ y. leb (f y) k) (take j ys) + cond (leb place k) many 0 ≡ many * count_if (λ y. leb (f y) k) (take (j + 1) ys)
+      next k =
+          rw (e, many-if (leb (f (get_or ys j 0)) k) many, count-next (λ y. leb (f y) k) ys j h)
+          (sym (mul-add many (count_if (λ y. leb (f y) k) (take j ys)) (one_if (leb (f (get_or ys j 0)) k))))
+
+  -- the same of the offsets at the places below one, also behind the end
   pub row_more : {old mid new : List ℕ} {place : ℕ} (j : ℕ) → place ≡ f (get_or ys j 0) → Added n (λ k. many * count_below_of j (λ i. leb (f (get_or ys i 0)) k)) old mid → Changed place 0 many mid new → Added n (λ k. many * count_below_of (j + 1) (λ i. leb (f (get_or ys i 0)) k)) old new
-  unfolding count_below_of one_if
+  unfolding count_below_of
   row_more {place = place} j e a c = added-as (λ k h. next k) (added_then a (changed-added n c))
     where
-      times : (b : Bool) → cond b many 0 ≡ many * one_if b
-      times true = sym (mul-one many)
-      times false = sym (mul-zero many)
-
       next : (k : ℕ) → many * sum_below j (λ i. one_if (leb (f (get_or ys i 0)) k)) + cond (leb place k) many 0 ≡ many * sum_below (j + 1) (λ i. one_if (leb (f (get_or ys i 0)) k))
       next k =
-          ap (λ (m : ℕ). many * sum_below j (λ i. one_if (leb (f (get_or ys i 0)) k)) + m) (times (leb place k) ∙ ap (λ (b : ℕ). many * one_if (leb b k)) e)
+          ap (λ (m : ℕ). many * sum_below j (λ i. one_if (leb (f (get_or ys i 0)) k)) + m) (many-if (leb place k) many ∙ ap (λ (b : ℕ). many * one_if (leb b k)) e)
           ∙ sym (mul-add many (sum_below j (λ i. one_if (leb (f (get_or ys i 0)) k))) (one_if (leb (f (get_or ys j 0)) k)))
           ∙ ap (λ (m : ℕ). many * m) (sym (sum-next (λ i. one_if (leb (f (get_or ys i 0)) k)) j))
-
-  pub row-all : {old new : List ℕ} {j : ℕ} → j ≡ length ys → Added n (λ k. many * count_below_of j (λ i. leb (f (get_or ys i 0)) k)) old new → Added n (λ k. many * count_if (λ y. leb (f y) k) ys) old new
-  row-all e a = added-as (λ k h. ap (λ (m : ℕ). many * m) (ap (λ (j : ℕ). count_below_of j (λ i. leb (f (get_or ys i 0)) k)) e ∙ count-below-list 0 (λ y. leb (f y) k) ys)) a
 
 -- the buckets, in place of what is found as g has it
 pub row-found : (ladder : List ℕ) (many : ℕ) (f g : ℕ → ℕ) (ys : List ℕ) {old new : List ℕ} → ((d : ℕ) → found_in ladder d ≡ g d) → Added max_thresholds (λ k. many * count_if (λ y. leb (g (f y)) k) ys) old new → Added max_thresholds (λ k. many * count_if (λ y. leb (bucket_in ladder (f y)) k) ys) old new

@@ -17,7 +17,7 @@ module _ {State : Type 0} (step : State → List ℕ → Step State) (Good : Sta
     where
       by : (t : Step State) → step s line ≡ t → ((u : State) → Good u → read_lines step (suc place) u more ≡ read s' → Good s') → next t place (λ u. read_lines step (suc place) u more) ≡ read s' → Good s'
       by (taken u) is on f = on u (keeps s line u g is) f
-      by (refused number) is on f = absurd (let z : ◌≡◌ {A = ℕ} 0 1 = cc in omega arith)
+      by (refused fault) is on f = absurd (let z : ◌≡◌ {A = ℕ} 0 1 = cc in omega arith)
 
 -- what holds of each element of a list and of one more holds of each of the two together
 pub each_snoc : {A : Type 0} (P : A → Type 0) (d : A) (xs : List A) (x : A) → ((k : ℕ) → k < length xs → P (get_or xs k d)) → P x → (k : ℕ) → k < length (xs ++ (x ∷ [])) → P (get_or (xs ++ (x ∷ [])) k d)

@@ -1,4 +1,7 @@
 -- What the sweep is told of two edges, and what it leaves: the positions and moves that the definitions say.
+use Rattle.model.specs.Refusal.{Check, accepted}
+use Rattle.model.specs.declared.refusal.Refusal.{Refusal}
+use Rattle.std.specs.Prelude.{Err}
 use mathlib.Core.List.{List}
 use mathlib.Core.Path.{◌≡◌, ◌∙◌, sym, ap}
 use Prim.Native.Nat.{ℕ, pred, ◌≤◌}
@@ -16,8 +19,6 @@ use Rattle.model.specs.Events.{having}
 use Rattle.model.specs.Location.{Side, at_first, at_second, end_node}
 use Rattle.model.specs.Network.{Network}
 use Rattle.model.specs.NodeDistance.{bounded_distance}
-use Rattle.model.specs.declared.check.Check.{Check}
-use Rattle.model.specs.declared.check.Check.TheVariants.{Accepted, Refused}
 use Rattle.sweep.proofs.Laws.AnsweringCheck.{CursorsAccepted}
 use Rattle.sweep.proofs.Laws.OnEdges.{laid-on-edge}
 use Rattle.sweep.specs.Answers.{cursors_check, cursor_positions, cursor_moves, route_positions, route_moves, CursorsAnswered}
@@ -35,7 +36,7 @@ same_number e f h k = go (ℕ_discrete e f)
     go (no q) = ne_eqb (pred e) (pred f) (λ p. q (omega arith)) ∙ sym (ne_eqb e f q)
 
 -- the events on an edge, handed back as a part of the list
-pub part-is : {net : Network} {es xs r : List ℕ} {e number place : ℕ} → laid_out_check net es xs e ≡ Accepted → StretchAnswered net es xs e r number place → r ≡ having e es xs
+pub part-is : {net : Network} {es xs r : List ℕ} {e number place : ℕ} → laid_out_check net es xs e ≡ accepted → StretchAnswered net es xs e r number place → r ≡ having e es xs
 unfolding stretch_of
 part-is h a = rw h at a.stretch_is
 
@@ -86,19 +87,19 @@ module _ {net : Network} {es xs : List ℕ} {e f : ℕ} {ps ms : List ℕ} (ok :
     pub all-written : {t : ℕ} {xs₁ xs₂ ps' ms' : List ℕ} → xs₁ ≡ having e es xs → xs₂ ≡ having f es xs → EdgesSwept t w xs₁ xs₂ ps ms ps' ms' → CursorsWritten net es xs e f t bound ps ms ps' ms'
     all-written {t} p q swept =
         record {
-          positions_are = swept.positions_are ∙ rw (p, q) (ap (λ (l : List ℕ). written Accepted l ps) (marks-are t));
-          moves_are = swept.moves_are ∙ rw (p, q) (ap (λ (l : List ℕ). written Accepted l ms) (sums-are t));
+          positions_are = swept.positions_are ∙ rw (p, q) (ap (λ (l : List ℕ). written accepted l ps) (marks-are t));
+          moves_are = swept.moves_are ∙ rw (p, q) (ap (λ (l : List ℕ). written accepted l ms) (sums-are t));
         }
 
 -- the two ways to answer
 module _ {net : Network} {es xs : List ℕ} {e f : ℕ} {ps ms : List ℕ} {r : Check} (told : r ≡ cursors_check net es xs e f ps ms) (t bound : ℕ) where
-  pub refused : {number place : ℕ} → r ≡ Refused number place → CursorsAnswered net es xs e f t bound ps ms r ps ms
+  pub refused : {x : Refusal} → r ≡ Err x → CursorsAnswered net es xs e f t bound ps ms r ps ms
   unfolding written
   refused p =
       let no = sym told ∙ p in
       record { verdict = told; positions_after = rw no; moves_after = rw no }
 
-  pub answered : {ps' ms' : List ℕ} → r ≡ Accepted → CursorsWritten net es xs e f t bound ps ms ps' ms' → CursorsAnswered net es xs e f t bound ps ms r ps' ms'
+  pub answered : {ps' ms' : List ℕ} → r ≡ accepted → CursorsWritten net es xs e f t bound ps ms ps' ms' → CursorsAnswered net es xs e f t bound ps ms r ps' ms'
   answered p done =
       let yes = sym told ∙ p in
       record { verdict = told; positions_after = rw yes done.positions_are; moves_after = rw yes done.moves_are }

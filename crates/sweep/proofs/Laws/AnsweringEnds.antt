@@ -1,4 +1,5 @@
 -- The codes between the ends of two edges, found by a search from each end of the first.
+use Rattle.model.specs.Refusal.{Check}
 use mathlib.Core.List.{List}
 use mathlib.Core.Path.{◌≡◌, refl}
 use Prim.Native.Nat.{ℕ, pred, ◌-◌}
@@ -14,7 +15,6 @@ use Rattle.model.specs.Limits.{max_nodes}
 use Rattle.model.specs.Location.{Side, at_first, at_second, end_node}
 use Rattle.model.specs.Network.{Network, IsNode, first, second, size}
 use Rattle.model.specs.NodeDistance.{bounded_distance}
-use Rattle.model.specs.declared.check.Check.{Check}
 use Rattle.sweep.specs.Asked.{EndsAsked, EndsReached, EdgesAsked, EdgesFound, TwoEdges}
 use Rattle.edge_pair.specs.Edges.{code_between_of}
 use Rattle.sweep.specs.declared.asked.EndCodes.{EndCodes}

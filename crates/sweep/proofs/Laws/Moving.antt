@@ -43,7 +43,7 @@ module _ (test : ℕ → Bool) where
   pub falls-one : (k : ℕ) → 0 < k → test (k - 1) ≡ false → fallen_from test k ≡ fallen_from test (k - 1)
   falls-one k h e = ap (fallen_from test) {x = k} {y = suc (k - 1)} (omega arith) ∙ fell-one (k - 1) e
 
-  pub falls-to-none : (k : ℕ) → k ≤ 0 → fallen_from test k ≡ k
+  pub falls-to-none : (k : ℕ) → k ≤ 0 → fallen_from test k ≡ 0
   unfolding fallen_from
   falls-to-none zero h = refl
   falls-to-none (suc k) h = absurd (omega arith)

@@ -1,4 +1,5 @@
 -- Six parts written one after the other are the six lists, and six numbers written are the six sums.
+use Rattle.model.specs.Refusal.{accepted}
 use mathlib.Core.List.{List, [], ◌∷◌, ◌++◌, append_assoc}
 use mathlib.Core.Path.{◌≡◌, ◌∙◌, refl, sym, ap, ap₂}
 use Prim.Native.Nat.{ℕ, ◌+◌, ◌*◌, ◌≤◌}
@@ -7,7 +8,6 @@ use lib.ListN.{length, take, drop, set, length-map, length-append}
 use lib.Seq.{take_at, drop-append-add, drop-drop}
 use Rattle.model.specs.Answer.{written}
 use Rattle.model.specs.Location.{Side, at_first, at_second}
-use Rattle.model.specs.declared.check.Check.TheVariants.{Accepted}
 use Rattle.sweep.proofs.Laws.Kinds.{map-agree, below-standing, up-to-standing}
 use Rattle.sweep.specs.Answers.{marked_if}
 use Rattle.sweep.specs.Cursors.{positions, below, up_to, rest, moves}
@@ -19,7 +19,7 @@ use Rattle.sweep.specs.declared.cursor.Cursor.{Cursor}
 use Rattle.edge_pair.specs.declared.edges.EdgePair.{EdgePair}
 
 -- one part more behind those that are written
-more : (done part old l l' : List ℕ) (from : ℕ) → from ≡ length done → l ≡ written Accepted done old → l' ≡ placed from part l → l' ≡ written Accepted (done ++ part) old
+more : (done part old l l' : List ℕ) (from : ℕ) → from ≡ length done → l ≡ written accepted done old → l' ≡ placed from part l → l' ≡ written accepted (done ++ part) old
 unfolding written placed
 more done part old l l' from e f g =
     g
@@ -37,11 +37,11 @@ six-set (x₁ ∷ x₂ ∷ x₃ ∷ x₄ ∷ []) a b c d e f h = absurd (omega a
 six-set (x₁ ∷ x₂ ∷ x₃ ∷ x₄ ∷ x₅ ∷ []) a b c d e f h = absurd (omega arith)
 six-set (x₁ ∷ x₂ ∷ x₃ ∷ x₄ ∷ x₅ ∷ x₆ ∷ m) a b c d e f h = refl
 
-six-written : (m : List ℕ) → 6 ≤ length m → {r₁ r₂ r₃ r₄ r₅ r₆ s₁ s₂ s₃ s₄ s₅ s₆ : ℕ} → r₁ ≡ s₁ → r₂ ≡ s₂ → r₃ ≡ s₃ → r₄ ≡ s₄ → r₅ ≡ s₅ → r₆ ≡ s₆ → set (set (set (set (set (set m 0 r₁) 1 r₂) 2 r₃) 3 r₄) 4 r₅) 5 r₆ ≡ written Accepted (s₁ ∷ s₂ ∷ s₃ ∷ s₄ ∷ s₅ ∷ s₆ ∷ []) m
+six-written : (m : List ℕ) → 6 ≤ length m → {r₁ r₂ r₃ r₄ r₅ r₆ s₁ s₂ s₃ s₄ s₅ s₆ : ℕ} → r₁ ≡ s₁ → r₂ ≡ s₂ → r₃ ≡ s₃ → r₄ ≡ s₄ → r₅ ≡ s₅ → r₆ ≡ s₆ → set (set (set (set (set (set m 0 r₁) 1 r₂) 2 r₃) 3 r₄) 4 r₅) 5 r₆ ≡ written accepted (s₁ ∷ s₂ ∷ s₃ ∷ s₄ ∷ s₅ ∷ s₆ ∷ []) m
 unfolding written
 six-written m h {r₁} {r₂} {r₃} {r₄} {r₅} {r₆} {s₁} {s₂} {s₃} {s₄} {s₅} {s₆} e₁ e₂ e₃ e₄ e₅ e₆ = rw (e₁, e₂, e₃, e₄, e₅, e₆) (six-set m s₁ s₂ s₃ s₄ s₅ s₆ h)
 
-nothing_written : (l : List ℕ) → l ≡ written Accepted [] l
+nothing_written : (l : List ℕ) → l ≡ written accepted [] l
 unfolding written
 nothing_written l = refl
 
@@ -92,16 +92,16 @@ module _ (t : ℕ) (w : EdgePair) (xs ys : List ℕ) where
       let o₃ = marks at_second at_first in
       let o₄ = marks at_second at_second in
       let o₅ = window (below t) in
-      let e₁ : l₁ ≡ written Accepted o₁ l₀ = more [] o₁ l₀ l₀ l₁ 0 refl none_yet p₁.positions_are in
-      let e₂ : l₂ ≡ written Accepted (o₁ ++ o₂) l₀ = more o₁ o₂ l₀ l₁ l₂ (length xs) (sym n₁) e₁ p₂.positions_are in
-      let e₃ : l₃ ≡ written Accepted ((o₁ ++ o₂) ++ o₃) l₀ = more (o₁ ++ o₂) o₃ l₀ l₂ l₃ (2 * length xs) (simp length-append (omega arith)) e₂ p₃.positions_are in
-      let e₄ : l₄ ≡ written Accepted (((o₁ ++ o₂) ++ o₃) ++ o₄) l₀ = more ((o₁ ++ o₂) ++ o₃) o₄ l₀ l₃ l₄ (3 * length xs) (simp length-append (omega arith)) e₃ p₄.positions_are in
-      let e₅ : l₅ ≡ written Accepted ((((o₁ ++ o₂) ++ o₃) ++ o₄) ++ o₅) l₀ = more (((o₁ ++ o₂) ++ o₃) ++ o₄) o₅ l₀ l₄ l₅ (4 * length xs) (simp length-append (omega arith)) e₄ w₅.0 in
-      let e₆ : l₆ ≡ written Accepted (((((o₁ ++ o₂) ++ o₃) ++ o₄) ++ o₅) ++ window (up_to t)) l₀ = more ((((o₁ ++ o₂) ++ o₃) ++ o₄) ++ o₅) (window (up_to t)) l₀ l₅ l₆ (5 * length xs) (simp length-append (omega arith)) e₅ w₆.0 in
+      let e₁ : l₁ ≡ written accepted o₁ l₀ = more [] o₁ l₀ l₀ l₁ 0 refl none_yet p₁.positions_are in
+      let e₂ : l₂ ≡ written accepted (o₁ ++ o₂) l₀ = more o₁ o₂ l₀ l₁ l₂ (length xs) (sym n₁) e₁ p₂.positions_are in
+      let e₃ : l₃ ≡ written accepted ((o₁ ++ o₂) ++ o₃) l₀ = more (o₁ ++ o₂) o₃ l₀ l₂ l₃ (2 * length xs) (simp length-append (omega arith)) e₂ p₃.positions_are in
+      let e₄ : l₄ ≡ written accepted (((o₁ ++ o₂) ++ o₃) ++ o₄) l₀ = more ((o₁ ++ o₂) ++ o₃) o₄ l₀ l₃ l₄ (3 * length xs) (simp length-append (omega arith)) e₃ p₄.positions_are in
+      let e₅ : l₅ ≡ written accepted ((((o₁ ++ o₂) ++ o₃) ++ o₄) ++ o₅) l₀ = more (((o₁ ++ o₂) ++ o₃) ++ o₄) o₅ l₀ l₄ l₅ (4 * length xs) (simp length-append (omega arith)) e₄ w₅.0 in
+      let e₆ : l₆ ≡ written accepted (((((o₁ ++ o₂) ++ o₃) ++ o₄) ++ o₅) ++ window (up_to t)) l₀ = more ((((o₁ ++ o₂) ++ o₃) ++ o₄) ++ o₅) (window (up_to t)) l₀ l₅ l₆ (5 * length xs) (simp length-append (omega arith)) e₅ w₆.0 in
       record {
-        positions_are = e₆ ∙ ap (λ (l : List ℕ). written Accepted l l₀) (simp append_assoc);
+        positions_are = e₆ ∙ ap (λ (l : List ℕ). written accepted l l₀) (simp append_assoc);
         moves_are = six-written m ready.sums_room p₁.moves_are p₂.moves_are p₃.moves_are p₄.moves_are w₅.1 w₆.1;
       }
     where
-      none_yet : l₀ ≡ written Accepted [] l₀
+      none_yet : l₀ ≡ written accepted [] l₀
       none_yet = nothing_written l₀

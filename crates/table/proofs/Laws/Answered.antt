@@ -1,4 +1,5 @@
 -- The promise of the table, from the checks, the counts and the columns.
+use Rattle.model.specs.Refusal.{Check, accepted}
 use mathlib.Core.List.{List, ◌++◌, map}
 use mathlib.Core.Path.{◌≡◌, refl, sym, ap, ◌∙◌}
 use Prim.Native.Nat.{ℕ, suc, ◌*◌, ◌≤◌}
@@ -12,8 +13,9 @@ use Rattle.model.specs.Envelope.{observed, envelope}
 use Rattle.model.specs.Events.{events, greatest_set_of, set_count}
 use Rattle.model.specs.Limits.{max_set, max_thresholds}
 use Rattle.model.specs.Network.{Network}
-use Rattle.model.specs.declared.check.Check.{Check}
-use Rattle.model.specs.declared.check.Check.TheVariants as check
+use Rattle.std.specs.Prelude.{Ok, Err}
+use Rattle.model.specs.Answer.{answer}
+use Rattle.model.specs.declared.refusal.Refusal.{Refusal}
 use Rattle.model.proofs.Laws.Answer.{written-refused}
 use Rattle.model.proofs.Laws.CheckParts.{room-accepted}
 use Rattle.model.proofs.Laws.Checks.{sets-accepted, thresholds-accepted}
@@ -24,7 +26,6 @@ use Rattle.validate.proofs.SetSizes.{greatest-small}
 use Rattle.table.specs.Columns.{ColumnsFilled, ColumnsFit, columns}
 use Rattle.table.specs.Table.{TableAnswered, spanned, spans_check, table_answer, table_check}
 use Rattle.table.specs.declared.answers.Table.{Table}
-use Rattle.table.specs.declared.answers.Table.TheVariants.{Refused}
 use Rattle.table.proofs.Laws.Counted.{observed-row, columns-are}
 
 -- as many counts as there may be
@@ -33,31 +34,27 @@ most_counts = 2048
 
 -- accepted: there is room in the answer lists, and room for all counts
 pub record TableAccepted (net : Network) (sets es xs ts first second third : List ℕ) : Type 0 where
-  pub accepted : table_check net sets es xs ts first second third ≡ check.Accepted
+  pub passed : table_check net sets es xs ts first second third ≡ accepted
   pub first_room_of : length ts ≤ length first
   pub second_room_of : spanned (greatest_set_of sets) (length ts) ≤ length second
   pub third_room : spanned (greatest_set_of sets) (length ts) ≤ length third
   pub few-counts : set_count sets * length ts ≤ most_counts
-  pub counts-accepted : counts_check net sets es xs ts most_counts ≡ check.Accepted
-
--- a refusal is answered by its number and place
-refused-answer : {r : Check} {number place : ℕ} (n : ℕ) → r ≡ check.Refused number place → Refused number place ≡ table_answer r n
-unfolding table_answer
-refused-answer n e = rw e
+  pub counts-accepted : counts_check net sets es xs ts most_counts ≡ accepted
 
 module _ {net : Network} {sets es xs ts first second third : List ℕ} where
   -- a refusal leaves the three lists as they were
-  pub table-refused : {r : Check} {number place : ℕ} → r ≡ table_check net sets es xs ts first second third → r ≡ check.Refused number place → TableAnswered net sets es xs ts first second third (Refused number place) first second third
+  pub table-refused : {r : Check} {x : Refusal} → r ≡ table_check net sets es xs ts first second third → r ≡ Err x → TableAnswered net sets es xs ts first second third (Err x) first second third
+  unfolding table_answer answer
   table-refused e told =
       let no = sym e ∙ told in
       record {
-        answer = refused-answer (greatest_set_of sets) no;
+        told = rw no;
         observed_after = written-refused _ first no;
         lower_after = written-refused _ second no;
         upper_after = written-refused _ third no;
       }
 
-  pub table-accepted : {r : Check} → r ≡ table_check net sets es xs ts first second third → r ≡ check.Accepted → TableAccepted net sets es xs ts first second third
+  pub table-accepted : {r : Check} → r ≡ table_check net sets es xs ts first second third → r ≡ accepted → TableAccepted net sets es xs ts first second third
   unfolding table_check spans_check set_count
   table-accepted e told =
       let ok = sym e ∙ told in
@@ -69,7 +66,7 @@ module _ {net : Network} {sets es xs ts first second third : List ℕ} where
       let sets-to : suc (greatest_set_of sets) ≤ suc max_set = omega arith in
       let few-counts : suc (greatest_set_of sets) * length ts ≤ suc max_set * max_thresholds = mul-le-mul sets-to (thresholds-accepted ts rest.1).few in
       record {
-        accepted = ok;
+        passed = ok;
         first_room_of = room-accepted _ first one.0;
         second_room_of = room-accepted _ second spans.0;
         third_room = room-accepted _ third spans.1;
@@ -92,14 +89,15 @@ module _ {net : Network} {sets es xs ts first second third : List ℕ} where
           third_room = rw greatest a.third_room;
         }
 
-    pub table-answered : {answer : Table} {first' second' third' : List ℕ} → ColumnsFilled rows (length ts) g first second third answer first' second' third' → TableAnswered net sets es xs ts first second third answer first' second' third'
+    pub table-answered : {columns : Table} {first' second' third' : List ℕ} → ColumnsFilled rows (length ts) g first second third columns first' second' third' → TableAnswered net sets es xs ts first second third (Ok columns) first' second' third'
+    unfolding table_answer answer
     table-answered filled =
         let rest : List ℕ = drop (length (count_table net sets (events es xs) ts)) old in
         let front : take (length ts) rows ≡ map (observed net sets (events es xs)) ts = ap (take (length ts)) rows_are ∙ observed-row net sets (events es xs) ts rest in
         let spans : columns rows (length ts) g ≡ map (envelope net sets (events es xs)) ts = rw (rows_are, greatest) (columns-are net sets (events es xs) ts rest) in
         record {
-          answer = rw (a.accepted, ← greatest) filled.answer;
-          observed_after = rw (a.accepted, ← front) filled.observed_after;
-          lower_after = rw (a.accepted, ← spans) filled.lower_after;
-          upper_after = rw (a.accepted, ← spans) filled.upper_after;
+          told = rw (a.passed, ← greatest, filled.answer);
+          observed_after = rw (a.passed, ← front) filled.observed_after;
+          lower_after = rw (a.passed, ← spans) filled.lower_after;
+          upper_after = rw (a.passed, ← spans) filled.upper_after;
         }

@@ -9,9 +9,9 @@ use lib.Seq.{length-take-le}
 use Rattle.model.specs.Answer.{written}
 use Rattle.model.specs.Counting.{numbers_from}
 use Rattle.model.specs.Envelope.{Envelope, no_value, envelope_of}
-use Rattle.model.specs.declared.check.Check.TheVariants as check
+use Rattle.model.specs.Refusal.{accepted}
 use Rattle.table.specs.Columns.{RowsThere, ColumnsFilled, ColumnsFit, column_from, columns}
-use Rattle.table.specs.Table.{ends, leasts, greatests, spanned, table_answer}
+use Rattle.table.specs.Table.{ends, leasts, greatests, spanned, columns_of}
 use Rattle.table.specs.declared.answers.Table.TheVariants.{Observed, Compared}
 
 -- the first row is there
@@ -35,7 +35,7 @@ spanned-most zero width = omega arith
 spanned-most (suc greatest) width = omega arith
 
 -- answers that were put into the front of a list
-front-written : (answers old new : List ℕ) (n : ℕ) → new ≡ answers → length new ≡ n → new ++ drop n old ≡ written check.Accepted answers old
+front-written : (answers old new : List ℕ) (n : ℕ) → new ≡ answers → length new ≡ n → new ++ drop n old ≡ written accepted answers old
 unfolding written
 front-written answers old new n e l = rw (← l, e) refl
 
@@ -46,7 +46,7 @@ no-ends pick f none [] = refl
 no-ends pick f none (k ∷ ks) = rw (none k) (no-ends pick f none ks)
 
 module _ {rows : List ℕ} {width greatest : ℕ} {first second third : List ℕ} (fit : ColumnsFit rows width greatest first second third) where
-  observed-written : (new : List ℕ) → new ≡ take width rows → new ++ drop width first ≡ written check.Accepted (take width rows) first
+  observed-written : (new : List ℕ) → new ≡ take width rows → new ++ drop width first ≡ written accepted (take width rows) first
   observed-written new e =
       front-written (take width rows) first new width e (ap length e ∙ length-take-le width rows (first-row fit.rows_there))
 
@@ -60,7 +60,7 @@ module _ {rows : List ℕ} {width greatest : ℕ} {first second third : List ℕ
 
   -- without comparison sets
   pub observed-alone : (new : List ℕ) → greatest ≡ 0 → new ≡ take width rows → ColumnsFilled rows width greatest first second third Observed (new ++ drop width first) second third
-  unfolding leasts greatests columns column_from numbers_from envelope_of written table_answer
+  unfolding leasts greatests columns column_from numbers_from envelope_of written columns_of
   observed-alone new none e =
       record {
         answer = rw none refl;
@@ -79,6 +79,6 @@ module _ {rows : List ℕ} {width greatest : ℕ} {first second third : List ℕ
         upper_after = front-written _ third upper width u n;
       }
     where
-      compared : (n : ℕ) → 1 ≤ n → Compared ≡ table_answer check.Accepted n
+      compared : (n : ℕ) → 1 ≤ n → Compared ≡ columns_of n
       compared zero h = absurd (omega arith)
-      compared (suc n) h = unfold table_answer in refl
+      compared (suc n) h = unfold columns_of in refl

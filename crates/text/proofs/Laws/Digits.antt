@@ -1,7 +1,7 @@
 -- Laws of the digits of a number: how many there are, and how they are counted and filled in from the last one on.
 use mathlib.Core.Bool.{Bool, true, false}
 use mathlib.Core.List.{List, [], ◌∷◌, ◌++◌, append_assoc, append-nil}
-use mathlib.Core.Path.{◌≡◌, refl, sym, ap, ◌∙◌}
+use mathlib.Core.Path.{◌≡◌, refl, ap, ◌∙◌}
 use Prim.Native.Nat.{ℕ, zero, suc, ◌+◌, ◌*◌, ◌/◌, ◌%◌, ◌^◌, ◌≤◌, ◌<◌}
 use native.Mathlib.Nat.{pow-suc}
 use native.Mathlib.Numerals.{add-one}
@@ -115,7 +115,3 @@ module _ {value : ℕ} {out₀ out : List ℕ} {left i : ℕ} (so : Filling valu
         inside = rw length-set (omega arith);
         whole = so.whole ∙ rw (next, there) (append_assoc (padded j (left / 10)) (d ∷ []) (drop (suc j) out));
       }
-
-  pub filled : i ≡ 0 → out ≡ digits value
-  unfolding padded
-  filled e = sym (so.whole ∙ rw e)

@@ -7,10 +7,10 @@ use native.Mathlib.Omega.{arith}
 use borrow.Author.Tests.{le-leb, ne_eqb}
 use lib.Dec.{eqb}
 use lib.ListN.{length, get_or, get_or-append}
+use Rattle.std.proofs.Common.{Some}
 use Rattle.model.proofs.Laws.Refusal.{true-between}
 use Rattle.model.specs.Refusal.{is_between_of}
 use Rattle.text.specs.Numbers.{is_digit_of, all_digits_of, decimal, max_digits, max_number, well_formed, number_of}
-use Rattle.text.specs.declared.number.Number.TheVariants.{Value}
 use Rattle.text.specs.Digits.{last_digits, digits}
 use Rattle.text.proofs.Laws.Digits.{one-digit, more-digits, small-or-not, length_more, div_below}
 
@@ -91,6 +91,6 @@ module _ (n : ℕ) (small : n ≤ max_number) where
   unfolding digits
   digit-count = true-between 1 10 (length (last_digits 20 n)) (some-digits 19 n) (few-digits 20 9 n (omega arith))
 
-  pub read_back : number_of (digits n) ≡ Value n
+  pub read_back : number_of (digits n) ≡ Some n
   unfolding number_of well_formed digits
   read_back = simp (digit-count, all_digits 20 n, no-needless-zero n (omega arith), digits-worth n (omega arith), le-leb n max_number small)

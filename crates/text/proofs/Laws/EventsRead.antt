@@ -1,4 +1,6 @@
 -- The text of reports within the limits is accepted, and they are read back from it.
+use Rattle.model.specs.Refusal.{accepted}
+use Rattle.model.specs.declared.refusal.Fault.TheVariants.{BadSet, BeyondEdge, NoEdge, TooManyEvents}
 use mathlib.Core.List.Memᴰ
 use mathlib.Core.List.{List, [], ◌∷◌, ◌++◌, map, Memᴰ}
 use mathlib.Core.Path.{◌≡◌, refl, sym, ap, ◌∙◌}
@@ -12,8 +14,6 @@ use Rattle.model.specs.Checks.{network_check, sets_over_network_check}
 use Rattle.model.specs.Events.{event, IsEvent}
 use Rattle.model.specs.Limits.{max_set, max_events}
 use Rattle.model.specs.Network.{Network, edges, size}
-use Rattle.model.specs.Refusal.{bad_set, no_edge, beyond_edge, too_many_events}
-use Rattle.model.specs.declared.check.Check.TheVariants.{Accepted}
 use Rattle.text.specs.EventText.{Row, before_header, rows, event_header, take_row, take_numbers_of, event_step, event_end, event_lines}
 use Rattle.text.specs.Fields.{comma, same_bytes_of}
 use Rattle.text.specs.Lines.{carriage_return, csv_lines}
@@ -62,10 +62,10 @@ module _ (net : Network) (is : IsNetwork net) (all : List Row) (are : AreRows ne
       let small-edge : r.edge ≤ max_number = omega (arith, is.edges-to) in
       let small-offset : r.offset ≤ max_number = omega (arith, is.length_to (pred r.edge) (omega arith)) in
       ap (take_numbers_of net before) (read-three comma (omega arith) r.set small-set r.edge small-edge r.offset small-offset)
-      ∙ holds bad_set (le-leb r.set max_set good.set_to)
-      (holds no_edge (true-between 1 (edges net) r.edge from to)
-      (holds beyond_edge (le-leb r.offset (size net (pred r.edge)) on)
-      (holds too_many_events (lt-ltb (length before) max_events (omega (arith, are.few))) refl)))
+      ∙ holds BadSet (le-leb r.set max_set good.set_to)
+      (holds NoEdge (true-between 1 (edges net) r.edge from to)
+      (holds BeyondEdge (le-leb r.offset (size net (pred r.edge)) on)
+      (holds TooManyEvents (lt-ltb (length before) max_events (omega (arith, are.few))) refl)))
 
   -- the header and all rows
   all-taken : read_lines (event_step net) 1 before_header (event_header ∷ map row_line all) ≡ read (rows all)
@@ -75,7 +75,7 @@ module _ (net : Network) (is : IsNetwork net) (all : List Row) (are : AreRows ne
       ∙ rows-read (event_step net) rows row_line all row-taken 2
 
 -- Rows within the limits, over a network that passes its check, in any text of them: the text is accepted, and they are read.
-pub events-read : {net : Network} {all : List Row} {bytes : List ℕ} → IsEventText all bytes → network_check net ≡ Accepted → AreRows net all → event_lines net (csv_lines bytes) ≡ read all
+pub events-read : {net : Network} {all : List Row} {bytes : List ℕ} → IsEventText all bytes → network_check net ≡ accepted → AreRows net all → event_lines net (csv_lines bytes) ≡ read all
 unfolding event_text event_lines event_end
 events-read {net} {all} is-text accepted are =
     rw (is-text.is, csv-plain is-text.closed (one_more header-plain (map-plain carriage_return row_line row_plain all)), all-taken net (network-accepted net accepted) all are)
@@ -94,7 +94,7 @@ place_of (Memᴰ.tail m) =
     record { at = suc p.at; inside = omega (arith, p.inside); entry = p.entry }
 
 -- Rows that pass the check of reports given as lists are within the limits, so their text is accepted too.
-pub reports-read : (net : Network) {all : List Row} {bytes : List ℕ} → IsEventText all bytes → sets_over_network_check net (map (λ r. r.set) all) (map (λ r. r.edge) all) (map (λ r. r.offset) all) ≡ Accepted → event_lines net (csv_lines bytes) ≡ read all
+pub reports-read : (net : Network) {all : List Row} {bytes : List ℕ} → IsEventText all bytes → sets_over_network_check net (map (λ r. r.set) all) (map (λ r. r.edge) all) (map (λ r. r.offset) all) ≡ accepted → event_lines net (csv_lines bytes) ≡ read all
 reports-read net {all} is-text accepted = events-read is-text (network-accepts net good.is-network) (record { each = one; few = few })
   where
     good : SetsAccepted net (map (λ r. r.set) all) (map (λ r. r.edge) all) (map (λ r. r.offset) all)

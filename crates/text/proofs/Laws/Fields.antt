@@ -1,82 +1,49 @@
 -- Laws of fields: equal bytes, the first field of a line, and the numbers of a line.
 use mathlib.Core.Bool.{Bool, true, false, cond, ◌&&◌}
 use mathlib.Core.List.{List, [], ◌∷◌}
-use mathlib.Core.Path.{◌≡◌, refl, sym, ap, ◌∙◌}
+use mathlib.Core.Path.{◌≡◌, refl, ap, ◌∙◌}
 use Prim.Native.Nat.{ℕ, suc, ◌+◌, ◌-◌, ◌≤◌, ◌<◌}
 use native.Mathlib.Numerals.{add-one}
 use native.Mathlib.Omega.{arith}
-use borrow.Author.Tests.{eq-eqb, ne_eqb}
 use lib.Dec.{eqb}
-use lib.ListN.{length, get_or, take, drop, length-take, length-drop, drop_of_length-le}
-use lib.Seq.{drop-cons, take_all}
+use lib.Pointwise.{pointwise}
+use lib.ListN.{length, take, drop, length-drop}
+use lib.Seq.{take_all}
+use Rattle.std.proofs.Common.{Option}
+use Rattle.std.proofs.lemmas.Bool.Decides.{nat_tests}
 use Rattle.text.specs.Lines.{in_front}
 use Rattle.text.specs.Numbers.{number_of}
 use Rattle.text.specs.Fields.{fields, same_bytes_of, begins_with_of, numbers_in, of_one, of_two, of_three}
 use Rattle.text.specs.Places.{first_at}
-use Rattle.text.specs.declared.number.Number.{Number}
 use Rattle.text.specs.declared.fields.Numbers.TheVariants.{Nothing}
 
--- lists of the same bytes are equally long
-pub same_length : (a b : List ℕ) → same_bytes_of a b ≡ true → length a ≡ length b
+-- what `==` answers for two slices
+pub same-pointwise : (a b : List ℕ) → same_bytes_of a b ≡ pointwise eqb a b
 unfolding same_bytes_of
-same_length [] [] e = refl
-same_length [] (d ∷ ds) e = let z : ◌≡◌ {A = ℕ} 0 1 = cc in absurd (omega arith)
-same_length (b ∷ bs) [] e = let z : ◌≡◌ {A = ℕ} 0 1 = cc in absurd (omega arith)
-same_length (b ∷ bs) (d ∷ ds) e = go (eqb b d) (same_length bs ds) e
-  where
-    go : (same : Bool) → (same_bytes_of bs ds ≡ true → length bs ≡ length ds) → (same && same_bytes_of bs ds) ≡ true → suc (length bs) ≡ suc (length ds)
-    go true h k = ap suc (h k)
-    go false h k = let z : ◌≡◌ {A = ℕ} 0 1 = cc in absurd (omega arith)
+same-pointwise [] [] = refl
+same-pointwise [] (d ∷ ds) = refl
+same-pointwise (b ∷ bs) [] = refl
+same-pointwise (b ∷ bs) (d ∷ ds) = ap (λ (same : Bool). eqb b d && same) (same-pointwise bs ds)
 
--- so lists of different lengths differ
-pub differ-length : (a b : List ℕ) → (length a ≡ length b → ⊥) → false ≡ same_bytes_of a b
-differ-length a b h = go (same_bytes_of a b) (same_length a b)
-  where
-    go : (same : Bool) → (same ≡ true → length a ≡ length b) → false ≡ same
-    go true k = absurd (h (k refl))
-    go false k = refl
+-- the same with the lists in the other order
+eqb-turned : (b d : ℕ) → eqb b d ≡ eqb d b
+eqb-turned b d = grind (arith, nat_tests)
 
--- the first i bytes are the same
-pub record SameSoFar (a b : List ℕ) (i : ℕ) : Type 0 where
-  pub long : length a ≡ length b
-  pub inside : i ≤ length a
-  pub onward : same_bytes_of a b ≡ same_bytes_of (drop i a) (drop i b)
+pointwise-turned : (a b : List ℕ) → pointwise eqb a b ≡ pointwise eqb b a
+pointwise-turned [] [] = refl
+pointwise-turned [] (d ∷ ds) = refl
+pointwise-turned (b ∷ bs) [] = refl
+pointwise-turned (b ∷ bs) (d ∷ ds) = rw (eqb-turned b d, pointwise-turned bs ds)
 
-pub same_start : (a b : List ℕ) → length a ≡ length b → SameSoFar a b 0
-same_start a b e = record { long = e; inside = omega arith; onward = refl }
-
-module _ {a b : List ℕ} {i : ℕ} (so_far : SameSoFar a b i) where
-  module _ (h : i < length a) where
-    here : same_bytes_of (drop i a) (drop i b) ≡ (eqb (get_or a i 0) (get_or b i 0) && same_bytes_of (drop (suc i) a) (drop (suc i) b))
-    unfolding same_bytes_of
-    here =
-        let k : i < length b = omega (arith, so_far.long) in
-        simp (drop-cons a i 0 h, drop-cons b i 0 k)
-
-    pub one-differs : (get_or a i 0 ≡ get_or b i 0 → ⊥) → false ≡ same_bytes_of a b
-    one-differs d = sym (so_far.onward ∙ here ∙ simp (ne_eqb _ _ d))
-
-    pub one_same : get_or a i 0 ≡ get_or b i 0 → SameSoFar a b (i + 1)
-    one_same e = record {
-      long = so_far.long;
-      inside = omega arith;
-      onward = so_far.onward ∙ here ∙ simp (eq-eqb _ _ e, add-one);
-    }
-
-  pub all_same : length a ≤ i → true ≡ same_bytes_of a b
-  unfolding same_bytes_of
-  all_same h =
-      let k : length b ≤ i = omega (arith, so_far.long) in
-      sym (so_far.onward ∙ simp (drop_of_length-le a h, drop_of_length-le b k))
-
--- a line that begins with bytes is at least as long
-pub begins-length : (bytes line : List ℕ) → begins_with_of bytes line ≡ true → length bytes ≤ length line
+-- what `starts_with` answers
+pub begins-pointwise : (bytes line : List ℕ) → begins_with_of bytes line ≡ pointwise eqb bytes (take (length bytes) line)
 unfolding begins_with_of
-begins-length bytes line e = omega (arith, same_length (take (length bytes) line) bytes e, length-take (length bytes) line)
+begins-pointwise bytes line = same-pointwise (take (length bytes) line) bytes ∙ pointwise-turned (take (length bytes) line) bytes
 
-pub begins-short : (bytes line : List ℕ) → length line < length bytes → false ≡ begins_with_of bytes line
+-- what `strip_prefix` tests
+pub strips-pointwise : (bytes line : List ℕ) → begins_with_of bytes line ≡ pointwise eqb (take (length bytes) line) bytes
 unfolding begins_with_of
-begins-short bytes line h = differ-length (take (length bytes) line) bytes (λ e. omega (arith, length-take (length bytes) line, e))
+strips-pointwise bytes line = same-pointwise (take (length bytes) line) bytes
 
 -- a line with no separator is one field
 pub fields-alone : (sep : ℕ) (line : List ℕ) → length line ≤ first_at sep line → fields sep line ≡ line ∷ []
@@ -125,9 +92,6 @@ rest_from n line = take (length line - n) (drop n line)
 pub rest-from-drop : (n : ℕ) (line : List ℕ) → rest_from n line ≡ drop n line
 rest-from-drop n line = take_all (length line - n) (drop n line) (omega (arith, length-drop n line))
 
-pub numbers-from : (sep n : ℕ) (line : List ℕ) → numbers_in (fields sep (rest_from n line)) ≡ numbers_in (fields sep (drop n line))
-numbers-from sep n line = rw rest-from-drop
-
 module _ (sep : ℕ) (line : List ℕ) (i : ℕ) (found : i ≡ first_at sep line) where
   pub alone_at : length line ≤ i → fields sep line ≡ line ∷ []
   alone_at h = fields-alone sep line (rw found at h)
@@ -136,20 +100,20 @@ module _ (sep : ℕ) (line : List ℕ) (i : ℕ) (found : i ≡ first_at sep lin
   first_at_of h = rw rest-from-drop (rw found (fields-first sep line (rw found at h)))
 
 -- the numbers of one, two or three fields, each read by itself
-module _ (line a : List ℕ) (x : Number) (first : x ≡ number_of a) (sep : ℕ) where
+module _ (line a : List ℕ) (x : Option ℕ) (first : x ≡ number_of a) (sep : ℕ) where
   pub numbers-one : fields sep line ≡ a ∷ [] → of_one x ≡ numbers_in (fields sep line)
   unfolding numbers_in
   numbers-one e = simp (e, first)
 
-  module _ (b : List ℕ) (y : Number) (second : y ≡ number_of b) (behind : List ℕ) (e : fields sep line ≡ a ∷ fields sep behind) where
+  module _ (b : List ℕ) (y : Option ℕ) (second : y ≡ number_of b) (behind : List ℕ) (e : fields sep line ≡ a ∷ fields sep behind) where
     pub numbers-two : fields sep behind ≡ b ∷ [] → of_two x y ≡ numbers_in (fields sep line)
     unfolding numbers_in
     numbers-two k = simp (e, k, first, second)
 
     module _ (last : List ℕ) (k : fields sep behind ≡ b ∷ fields sep last) where
-      pub numbers-three : (z : Number) → z ≡ number_of last → fields sep last ≡ last ∷ [] → of_three x y z ≡ numbers_in (fields sep line)
+      pub numbers-three : (c : List ℕ) (z : Option ℕ) → z ≡ number_of c → fields sep last ≡ c ∷ [] → of_three x y z ≡ numbers_in (fields sep line)
       unfolding numbers_in
-      numbers-three z third m = simp (e, k, m, first, second, third)
+      numbers-three c z third m = simp (e, k, m, first, second, third)
 
       pub numbers-four : (d more : List ℕ) → fields sep last ≡ d ∷ fields sep more → Nothing ≡ numbers_in (fields sep line)
       numbers-four d more m = fields-four a b d sep more ∙ simp (e, k, m)

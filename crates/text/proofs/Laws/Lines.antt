@@ -10,7 +10,7 @@ use lib.Dec.{eqb, ltb}
 use lib.ListN.{length, take, drop, drop_of_length-le}
 use lib.Seq.{drop-nil, drop-drop}
 use Rattle.text.specs.Lines.{line_feed, carriage_return, in_front, feed_lines, csv_lines}
-use Rattle.text.specs.NextLine.{line, line_to, feed_line_of, csv_line_of}
+use Rattle.text.specs.NextLine.{line_to, feed_line_of, csv_line_of}
 use Rattle.text.specs.Places.{first_at, pair_at}
 use Rattle.text.specs.declared.lines.Line.{Line}
 use Rattle.text.proofs.Laws.Places.{first-bound, pair-bound, pair-whole}
@@ -83,33 +83,6 @@ module _ (lines : List ℕ → List (List ℕ)) (width end : ℕ) (rest : List �
           let last : length rest ≤ end = ltb-false end (length rest) h in
           let short : min (end + width) (length rest) ≡ end = omega arith in
           rw short (line-last last k)
-
--- the line as the code gives it: with a line end behind it, and without
-line-with-end : (width end : ℕ) (rest : List ℕ) → end + width ≤ length rest → line end (end + width) ≡ line_to end width rest
-unfolding line_to
-line-with-end width end rest h = ap (line end) (omega arith)
-
-line-without-end : (width end : ℕ) (rest : List ℕ) → end ≤ length rest → length rest ≤ end → line end end ≡ line_to end width rest
-unfolding line_to
-line-without-end width end rest h k = ap (line end) (omega arith)
-
-module _ (rest : List ℕ) (end : ℕ) (found : end ≡ first_at line_feed rest) where
-  pub feed-ended : end < length rest → line end (end + 1) ≡ feed_line_of rest
-  unfolding feed_line_of
-  feed-ended h = rw (← found) (line-with-end 1 end rest (omega arith))
-
-  pub feed-last : length rest ≤ end → line end end ≡ feed_line_of rest
-  unfolding feed_line_of
-  feed-last h = rw (← found) (line-without-end 1 end rest (omega (arith, first-bound line_feed rest)) h)
-
-module _ (rest : List ℕ) (end : ℕ) (found : end ≡ pair_at carriage_return line_feed rest) where
-  pub csv-ended : end < length rest → line end (end + 2) ≡ csv_line_of rest
-  unfolding csv_line_of
-  csv-ended h = rw (← found) (line-with-end 2 end rest (rw found (pair-whole carriage_return line_feed rest (rw found at h))))
-
-  pub csv-last : length rest ≤ end → line end end ≡ csv_line_of rest
-  unfolding csv_line_of
-  csv-last h = rw (← found) (line-without-end 2 end rest (omega (arith, pair-bound carriage_return line_feed rest)) h)
 
 -- What follows from it.
 pub feed-next : {rest : List ℕ} {r : Line} → r ≡ feed_line_of rest → NextLine feed_lines rest r.end r.next

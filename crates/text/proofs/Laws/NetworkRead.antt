@@ -1,4 +1,6 @@
 -- The text of a network within the limits is accepted, and the network is read back from it.
+use Rattle.model.specs.Refusal.{accepted}
+use Rattle.model.specs.declared.refusal.Fault.TheVariants.{BadLength, BadNode, BadSizes, NotTurned, WrongArcs}
 use mathlib.Core.Bool.{true, ◌||◌, or-true}
 use mathlib.Core.List.{List, [], ◌∷◌, ◌++◌, map, append-nil}
 use mathlib.Core.Path.{◌≡◌, refl, ap, ◌∙◌}
@@ -13,13 +15,11 @@ use Rattle.model.proofs.Laws.Refusal.{true-between}
 use Rattle.model.specs.Checks.{network_check}
 use Rattle.model.specs.Limits.{max_nodes, max_edges, max_length}
 use Rattle.model.specs.Network.{Network, network, edges, first, second, size}
-use Rattle.model.specs.Refusal.{bad_sizes, bad_node, bad_length}
-use Rattle.model.specs.declared.check.Check.TheVariants.{Accepted}
 use Rattle.text.specs.Fields.{space}
 use Rattle.text.specs.Lines.{line_feed, feed_lines}
 use Rattle.text.specs.NetworkText.{ArcRead, before_problem, reading, arc, turns_last, take_arc_of, take_problem_of, network_step, network_end, ended, network_lines, every_other, network_of_arcs, both_ways, arcs_of}
 use Rattle.text.specs.Parallel.{beside}
-use Rattle.text.specs.Reading.{taken, read, read_lines, not_turned, wrong_arcs}
+use Rattle.text.specs.Reading.{taken, read, read_lines}
 use Rattle.text.specs.Texts.{network_arcs, problem_line, arc_line, network_text_lines, IsNetworkText, lacks}
 use Rattle.text.proofs.Laws.Lacking.{numbered-lack}
 use Rattle.text.proofs.Laws.Remarks.{line_step, remarks-plain, remarks-passed}
@@ -69,7 +69,7 @@ problem-taken : (nodes edges : ℕ) → 1 ≤ nodes → nodes ≤ max_nodes → 
 unfolding network_step take_problem_of
 problem-taken nodes edges n-from n-to e-from e-to =
     ap (network_step before_problem) (problem-line nodes (2 * edges) (omega arith) (omega arith))
-    ∙ holds bad_sizes (simp (true-between 1 max_nodes nodes n-from n-to, eq-eqb (2 * edges % 2) 0 (omega arith), true-between 2 (2 * max_edges) (2 * edges) (omega arith) (omega arith))) refl
+    ∙ holds BadSizes (simp (true-between 1 max_nodes nodes n-from n-to, eq-eqb (2 * edges % 2) 0 (omega arith), true-between 2 (2 * max_edges) (2 * edges) (omega arith) (omega arith))) refl
 
 module _ (nodes arcs : ℕ) (few : nodes ≤ max_nodes) where
   -- an arc is taken behind those before it: 10 asks that a second one turns the first one round
@@ -77,10 +77,10 @@ module _ (nodes arcs : ℕ) (few : nodes ≤ max_nodes) where
   unfolding network_step take_arc_of
   arc-taken before u v w e turned room =
       ap (network_step (reading nodes arcs before)) (arc-line (arc u v w) (omega (arith, e.first_to)) (omega (arith, e.second_to)) (omega (arith, e.length_to)))
-      ∙ holds bad_node (simp (true-between 1 nodes u e.first_from e.first_to, true-between 1 nodes v e.second_from e.second_to))
-      (holds bad_length (true-between 1 max_length w e.length_from e.length_to)
-      (holds not_turned turned
-      (holds wrong_arcs (lt-ltb (length before) arcs room) refl)))
+      ∙ holds BadNode (simp (true-between 1 nodes u e.first_from e.first_to, true-between 1 nodes v e.second_from e.second_to))
+      (holds BadLength (true-between 1 max_length w e.length_from e.length_to)
+      (holds NotTurned turned
+      (holds WrongArcs (lt-ltb (length before) arcs room) refl)))
 
   -- the two arcs of an edge behind whole edges, then those of the other edges
   arcs-taken : (us vs ws : List ℕ) (before : List ArcRead) (place : ℕ)
@@ -161,7 +161,7 @@ module _ (net : Network) (is : IsNetwork net) where
   all_there = arcs-length net.firsts net.seconds net.lengths is.firsts_length is.seconds_length
 
 -- A network that passes its check, in any text of it: the text's lines are accepted, and the network's arcs are read.
-pub network-read : {net : Network} {bytes : List ℕ} → IsNetworkText net bytes → network_check net ≡ Accepted → network_lines (feed_lines bytes) ≡ read (reading net.nodes (2 * edges net) (network_arcs net))
+pub network-read : {net : Network} {bytes : List ℕ} → IsNetworkText net bytes → network_check net ≡ accepted → network_lines (feed_lines bytes) ≡ read (reading net.nodes (2 * edges net) (network_arcs net))
 unfolding network_lines ended network_end
 network-read {net} is-text accepted =
     let is = network-accepted net accepted in
@@ -169,7 +169,7 @@ network-read {net} is-text accepted =
     (rw (eq-eqb (length (network_arcs net)) (2 * edges net) (all_there net is)))
 
 -- The network of those arcs is the one that the text is-text.
-pub network-back : (net : Network) → network_check net ≡ Accepted → network_of_arcs net.nodes (network_arcs net) ≡ net
+pub network-back : (net : Network) → network_check net ≡ accepted → network_of_arcs net.nodes (network_arcs net) ≡ net
 unfolding network_arcs
 network-back net accepted =
     let is = network-accepted net accepted in

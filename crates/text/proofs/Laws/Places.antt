@@ -17,9 +17,6 @@ pub record Passed (place : List ℕ → ℕ) (bytes : List ℕ) (i : ℕ) : Type
   pub behind : place bytes ≡ i + place (drop i bytes)
 
 module _ (place : List ℕ → ℕ) (bytes : List ℕ) where
-  pub passed_none : Passed place bytes 0
-  passed_none = record { inside = omega arith; behind = omega arith }
-
   module _ {i : ℕ} (passed : Passed place bytes i) where
     pub pass-one : i < length bytes → place (drop i bytes) ≡ suc (place (drop (suc i) bytes)) → Passed place bytes (i + 1)
     pass-one h e = record { inside = omega arith; behind = simp add-one (omega (arith, passed.behind, e)) }

@@ -4,13 +4,14 @@ use mathlib.Core.List.{List, [], ◌∷◌, ◌++◌, map, append-nil}
 use mathlib.Core.Path.{◌≡◌, refl, sym, ap, ◌∙◌}
 use Prim.Native.Nat.{ℕ, suc}
 use lib.Seq.{append_snoc}
+use Rattle.model.specs.declared.refusal.Fault.{Fault}
 use Rattle.text.specs.Reading.{Step, taken, read, read_lines, next, require}
 
 module _ {State : Type 0} where
   -- a test that holds hands on to the next
-  pub holds : (number : ℕ) {good : Bool} {onward to : Step State} → good ≡ true → onward ≡ to → require good number onward ≡ to
+  pub holds : (fault : Fault) {good : Bool} {onward to : Step State} → good ≡ true → onward ≡ to → require good fault onward ≡ to
   unfolding require
-  holds number e on = rw e on
+  holds fault e on = rw e on
 
   -- behind a line that is taken the reading goes on
   pub goes_on : (step : State → List ℕ → Step State) (place : ℕ) {s s' : State} (line : List ℕ) (more : List (List ℕ)) → step s line ≡ taken s' → read_lines step place s (line ∷ more) ≡ read_lines step (suc place) s' more

@@ -1,4 +1,6 @@
 -- The text of thresholds within the limits is accepted, and they are read back from it.
+use Rattle.model.specs.Refusal.{accepted}
+use Rattle.model.specs.declared.refusal.Fault.TheVariants.{BadThresholds, NotRising}
 use mathlib.Core.Bool.{true}
 use mathlib.Core.List.{List, [], ◌∷◌, ◌++◌, map}
 use mathlib.Core.Path.{◌≡◌, refl, ap, ◌∙◌}
@@ -10,8 +12,6 @@ use lib.Seq.{get_or-append_seam}
 use Rattle.model.proofs.Laws.Checks.{ThresholdsAccepted, thresholds-accepted}
 use Rattle.model.specs.Checks.{thresholds_check}
 use Rattle.model.specs.Limits.{max_thresholds}
-use Rattle.model.specs.Refusal.{bad_thresholds, not_rising}
-use Rattle.model.specs.declared.check.Check.TheVariants.{Accepted}
 use Rattle.text.specs.Fields.{comma, same_bytes_of}
 use Rattle.text.specs.Lines.{carriage_return, csv_lines}
 use Rattle.text.specs.Numbers.{max_number}
@@ -49,8 +49,8 @@ module _ (ts : List ℕ) (good : ThresholdsAccepted ts) (small : (k : ℕ) → k
       let here : get_or ts (length before) 0 ≡ t = rw e (get_or-append_seam before t rest 0) in
       let fits : t ≤ max_number = rw here at (small (length before) (omega arith)) in
       ap (take_number_of before) (read_one comma (omega arith) t fits)
-      ∙ holds bad_thresholds (lt-ltb (length before) max_thresholds (omega (arith, good.few)))
-      (holds not_rising (above-last before t rest (rw e at good.rising)) refl)
+      ∙ holds BadThresholds (lt-ltb (length before) max_thresholds (omega (arith, good.few)))
+      (holds NotRising (above-last before t rest (rw e at good.rising)) refl)
 
   -- the header and all of them
   all-taken : read_lines threshold_step 1 before_header (threshold_header ∷ map digits ts) ≡ read (values ts)
@@ -67,7 +67,7 @@ some_read place (t ∷ ts) some = refl
 
 -- Thresholds that pass the check of a threshold list, and are no greater than a number in a text may be, in any text of them: the
 -- text is accepted, and they are read.
-pub thresholds-read : {ts bytes : List ℕ} → IsThresholdText ts bytes → thresholds_check ts ≡ Accepted → ((k : ℕ) → k < length ts → get_or ts k 0 ≤ max_number) → threshold_lines (csv_lines bytes) ≡ read ts
+pub thresholds-read : {ts bytes : List ℕ} → IsThresholdText ts bytes → thresholds_check ts ≡ accepted → ((k : ℕ) → k < length ts → get_or ts k 0 ≤ max_number) → threshold_lines (csv_lines bytes) ≡ read ts
 unfolding threshold_text threshold_lines
 thresholds-read {ts} is-text accepted small =
     let good = thresholds-accepted ts accepted in

@@ -1,15 +1,6 @@
 use Rattle.model.proofs.Laws.CheckParts.{same-length-accepted}
-use Rattle.model.specs.Checks.{laid_out_check, event_lists, lone_edge_check, event_values, event_edges_check, event_offsets_check}
-use Rattle.validate.proofs.Over.{over-stops, over-goes-on, over-accepted}
+use Rattle.validate.proofs.Over.{over-accepted}
 use Rattle.validate.proofs.check_laid_out.Goals as goal
 
-pub returns-in-Refused : goal.returns-in-Refused
-unfolding laid_out_check event_lists lone_edge_check event_values event_edges_check event_offsets_check
-returns-in-Refused c = over-stops _ _ _ _ c.same_length-lists.ensures c.check_over-network.ensures c.in-Refused.is
-
 pub check_laid_out-requires : goal.check_laid_out-requires
-check_laid_out-requires c = same-length-accepted _ _ (over-accepted _ _ _ c.same_length-lists.ensures c.check_over-network.ensures c.in_default.is)
-
-pub returns : goal.returns
-unfolding laid_out_check event_lists lone_edge_check event_values event_edges_check event_offsets_check
-returns c = over-goes-on _ _ _ _ c.same_length-lists.ensures c.check_over-network.ensures c.in_default.is c.check_laid_out.ensures
+check_laid_out-requires c = same-length-accepted _ _ (over-accepted _ _ _ c.same_length-lists.ensures c.check_over.ensures c.in_ok-check_over.was)

@@ -20,6 +20,3 @@ loop-left-preserved c = (c.halve-low.ensures.1, among_next _ _ _ _ _ (omega (ari
 
 pub place_among-requires : goal.place_among-requires
 place_among-requires c = (c.loop-left.invariant.0, omega (arith, c.loop-left-test.false))
-
-pub returns : goal.returns
-returns c = c.place_among.ensures ∙ c.loop-left.invariant.1

@@ -22,9 +22,6 @@ count_part-found-requires c = (c.requires.0, c.requires.1)
 pub overflow_mul-next : goal.overflow_mul-next
 overflow_mul-next c = omega (arith, mul-le-mul {m₁ = c.count_part-found.result} {m₂ = 3 * 4294967295} c.requires.2 c.count_part-found.ensures.1)
 
-pub loop-k-smaller : goal.loop-k-smaller
-loop-k-smaller c = omega (arith, c.loop-k-test.true)
-
 pub loop-k-preserved : goal.loop-k-preserved
 loop-k-preserved c = (
   c.change_from.ensures.same_length ∙ c.loop-k.invariant.0,

@@ -1,6 +1,5 @@
 -- The numbers of the thresholds so far have been added, the last of them to all totals that follow.
 use mathlib.Core.Path.{◌≡◌}
-use Prim.Native.Nat.{◌-◌}
 use lib.ListN.{length}
 use Rattle.count_augmentation.specs.Thresholds.{Spread}
 use Rattle.count_augmentation.proofs.Laws.Thresholds.{Adding}
@@ -10,6 +9,3 @@ abbrev pub invariant-loop-k : goal.invariant-loop-k
 invariant-loop-k l =
     (length l.totals ≡ length l.initial.totals)
     × (Spread l.edges l.thresholds l.x l.ys l.near_first l.near_second l.from l.to → Adding l.edges l.thresholds l.x l.ys l.near_first l.near_second l.events l.from l.to l.initial.totals l.k l.last l.totals)
-
-abbrev pub decreases-loop-k : goal.decreases-loop-k
-decreases-loop-k l = l.to - l.k

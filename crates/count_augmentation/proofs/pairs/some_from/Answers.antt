@@ -8,4 +8,4 @@ returns-then-own c = simp c.if-own.true
 
 pub returns-else-own : goal.returns-else-own
 unfolding some_from_of
-returns-else-own c = simp c.if-own.false c.lesser.ensures
+returns-else-own c = simp c.if-own.false c.min.ensures

@@ -1,11 +1,7 @@
 -- The runs so far are stored; a run that is put back leaves the others as they were.
-use Rattle.std.proofs.Common.{◌-◌, ◌≤◌}
 use Rattle.counting.proofs.Laws.Stored.{StoredTo}
 use Rattle.counting.proofs.stored.store_runs.Given as goal
 
 abbrev pub invariant-loop-k : goal.invariant-loop-k
 invariant-loop-k l =
-    (l.k ≤ l.runs) × StoredTo l.offsets l.bounds l.initial.near_first l.initial.near_second l.k l.near_first l.near_second
-
-abbrev pub decreases-loop-k : goal.decreases-loop-k
-decreases-loop-k l = l.runs - l.k
+    StoredTo l.offsets l.bounds l.initial.near_first l.initial.near_second l.k l.near_first l.near_second

@@ -1,10 +1,7 @@
 -- `least_of_fours`: see proofs/Least.
-use Prim.Native.Nat.{◌*◌, ◌-◌, ◌≤◌}
+use Prim.Native.Nat.{◌*◌, ◌≤◌}
 use Rattle.distance.specs.Keys.{Least}
 use Rattle.distance.proofs.keys.least_of_fours.Given as goal
 
 abbrev pub invariant-loop-k : goal.invariant-loop-k
-invariant-loop-k l = (l.k ≤ l.fours) × (1 ≤ l.len → Least l.keys l.len 0 (l.k * 4) l.least)
-
-abbrev pub decreases-loop-k : goal.decreases-loop-k
-decreases-loop-k l = l.fours - l.k
+invariant-loop-k l = 1 ≤ l.len → Least l.keys l.len 0 (l.k * 4) l.least

@@ -4,8 +4,8 @@ use native.Mathlib.Omega.{arith}
 use Rattle.distance.proofs.Verdicts.{row-short, row-roomy}
 use Rattle.distance.proofs.row.check_row.Goals as goal
 
-pub returns-then-answers-nodes : goal.returns-then-answers-nodes
-returns-then-answers-nodes c = row-short _ _ _ (omega arith)
+pub returns-then-answers-network : goal.returns-then-answers-network
+returns-then-answers-network c = row-short _ _ _ (omega arith)
 
 pub returns : goal.returns
 returns c = c.check_nodes.ensures ∙ row-roomy _ _ _ (omega arith)

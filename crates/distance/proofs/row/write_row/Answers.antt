@@ -10,6 +10,6 @@ use Rattle.distance.proofs.row.write_row.Goals as goal
 pub returns : goal.returns
 returns c = let found = c.find in record {
   answers_after = c.copy_row.ensures
-      ∙ ap (λ (l : List ℕ). l ++ drop c.args.nodes c.args.answers.now) (searched-row found.ensures (omega (arith, c.requires.askable.room, found.auto)));
+      ∙ ap (λ (l : List ℕ). l ++ drop c.args.network.nodes c.args.answers.now) (searched-row found.ensures (omega (arith, c.requires.askable.room, found.auto)));
   searched = found.ensures;
 }

@@ -20,11 +20,11 @@ loop-h-init c = (going_start c.requires.ready c.requires.following c.requires.ke
 pub tail_of-w-requires : goal.tail_of-w-requires
 tail_of-w-requires c = ((reach c.loop-h.invariant.0 (c.loop-h.h - 1) (an-arc c.loop-h-test.true)).in-seconds, (reach c.loop-h.invariant.0 (c.loop-h.h - 1) (an-arc c.loop-h-test.true)).in-firsts)
 
-pub offset_bounds-lengths-a : goal.offset_bounds-lengths-a
-offset_bounds-lengths-a c = omega (arith, reach c.loop-h.invariant.0 (c.loop-h.h - 1) (an-arc c.loop-h-test.true))
+pub offset_bounds-network-a : goal.offset_bounds-network-a
+offset_bounds-network-a c = omega (arith, reach c.loop-h.invariant.0 (c.loop-h.h - 1) (an-arc c.loop-h-test.true))
 
-pub bounds-lengths-a : goal.bounds-lengths-a
-bounds-lengths-a c = (reach c.loop-h.invariant.0 (c.loop-h.h - 1) (an-arc c.loop-h-test.true)).in-lengths
+pub bounds-network-a : goal.bounds-network-a
+bounds-network-a c = (reach c.loop-h.invariant.0 (c.loop-h.h - 1) (an-arc c.loop-h-test.true)).in-lengths
 
 pub overflow_add-entry : goal.overflow_add-entry
 overflow_add-entry c = omega (arith, reach c.loop-h.invariant.0 (c.loop-h.h - 1) (an-arc c.loop-h-test.true))

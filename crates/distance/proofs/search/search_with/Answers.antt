@@ -18,7 +18,7 @@ found : (c : Else-len-eq0) → Least c.picking.keys c.picking.len 0 c.picking.le
 found c = ends_at (c.loop-k.invariant.1 (omega (arith, c.if-len-eq0.false))) c.if-k-len.true
 
 pub bounds-dist-source : goal.bounds-dist-source
-bounds-dist-source c = omega (arith, c.requires.ready.room, c.requires.ready.source_is.to_nodes, c.clear.auto.list)
+bounds-dist-source c = omega (arith, c.requires.ready.room, c.requires.ready.source_is.to_nodes, c.fill.auto.self)
 
 pub bounds-front-0 : goal.bounds-front-0
 bounds-front-0 c = omega (arith, c.requires.ready.front_room, c.requires.ready.source_is)
@@ -30,7 +30,7 @@ pub bounds-slots-source : goal.bounds-slots-source
 bounds-slots-source c = omega (arith, c.requires.max_nodes_in_bounds.1, c.requires.ready.few_nodes, c.requires.ready.source_is.to_nodes)
 
 pub picking-init : goal.picking-init
-picking-init c = (turn-start _ c.clear.new.list c.args.keys.now c.args.slots.now _ c.requires.ready c.requires.max_nodes_in_bounds.0 c.requires.max_nodes_in_bounds.1 c.clear.auto.list (cleared (length c.args.dist.now) c.clear.ensures) c.key_of.ensures, refl, refl, refl, refl)
+picking-init c = (turn-start _ c.fill.new.self c.args.keys.now c.args.slots.now _ c.requires.ready c.requires.max_nodes_in_bounds.0 c.requires.max_nodes_in_bounds.1 c.fill.auto.self (cleared (length c.args.dist.now) (c.fill.ensures.after (λ y e. e))) c.key_of.ensures, refl, refl, refl, refl)
 
 pub least_of_fours-key-requires : goal.least_of_fours-key-requires
 least_of_fours-key-requires c = (omega (arith, c.picking.invariant.0.keyed.keys_room, c.picking.invariant.0.ready.source_is.from_one, c.picking.invariant.0.ready.source_is.to_nodes), keys-fit c.picking.invariant.0)
@@ -54,7 +54,7 @@ pub loop-k-smaller : goal.loop-k-smaller
 loop-k-smaller c = omega (arith, c.loop-k.invariant.0, c.if-k-len.false)
 
 pub loop-k-preserved : goal.loop-k-preserved
-loop-k-preserved c = (omega (arith, c.loop-k.invariant.0, c.if-k-len.false), λ some. join (c.loop-k.invariant.1 some) (one_key _ _ _ _ (omega (arith, c.loop-k.invariant.0, c.if-k-len.false)) refl) c.lesser-key.ensures)
+loop-k-preserved c = (omega (arith, c.loop-k.invariant.0, c.if-k-len.false), λ some. join (c.loop-k.invariant.1 some) (one_key _ _ _ _ (omega (arith, c.loop-k.invariant.0, c.if-k-len.false)) refl) c.min-key.ensures)
 
 pub overflow_sub-least : goal.overflow_sub-least
 overflow_sub-least c = omega (arith, nearest-reached c.picking.invariant.0 (turn-nearest c.picking.invariant.0 (found (goal.at.overflow_sub-least c).Else-len-eq0) refl c.entry_of-least.ensures))
@@ -97,7 +97,7 @@ picking-preserved c = let i = c.picking.invariant in
     )
 
 pub shape_of-dist-in-Exhausted : goal.shape_of-dist-in-Exhausted
-shape_of-dist-in-Exhausted c = c.picking.invariant.1 ∙ simp length-set c.clear.auto.list
+shape_of-dist-in-Exhausted c = c.picking.invariant.1 ∙ simp length-set c.fill.auto.self
 
 pub shape_of-front-in-Exhausted : goal.shape_of-front-in-Exhausted
 shape_of-front-in-Exhausted c = c.picking.invariant.2 ∙ simp length-set
@@ -116,7 +116,7 @@ returns-in-Exhausted c = let t = c.picking.invariant.0 in
     ]
 
 pub shape_of-dist-in-Beyond : goal.shape_of-dist-in-Beyond
-shape_of-dist-in-Beyond c = c.clip.auto.dist ∙ c.picking.invariant.1 ∙ simp length-set c.clear.auto.list
+shape_of-dist-in-Beyond c = c.clip.auto.dist ∙ c.picking.invariant.1 ∙ simp length-set c.fill.auto.self
 
 pub shape_of-front-in-Beyond : goal.shape_of-front-in-Beyond
 shape_of-front-in-Beyond c = c.picking.invariant.2 ∙ simp length-set

@@ -31,4 +31,4 @@ pub copy_row-requires : goal.copy_row-requires
 copy_row-requires c = (omega (arith, c.requires.ready.room, c.search_row-worth.auto), omega (arith, part-long c.args.at _ c.args.rows.now (row-end c.requires.rows_known.0 c.requires.rows_known.1).inside))
 
 pub returns : goal.returns
-returns c = row_made _ _ _ _ _ c.args.at {m = c.args.at + c.args.nodes - c.args.at} (omega arith) c.if-wanted-k-eq0.false (searched-row c.search_row-worth.ensures (omega (arith, c.requires.ready.room, c.search_row-worth.auto))) (row-end c.requires.rows_known.0 c.requires.rows_known.1).inside c.copy_row.ensures
+returns c = row_made _ _ _ _ _ c.args.at {m = c.args.at + c.args.network.nodes - c.args.at} (omega arith) c.if-wanted-k-eq0.false (searched-row c.search_row-worth.ensures (omega (arith, c.requires.ready.room, c.search_row-worth.auto))) (row-end c.requires.rows_known.0 c.requires.rows_known.1).inside c.copy_row.ensures

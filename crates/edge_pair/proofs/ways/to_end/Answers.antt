@@ -17,8 +17,8 @@ pub overflow_add-x : goal.overflow_add-x
 overflow_add-x c = omega (arith, by_first (goal.at.overflow_add-x c).After-way-by_first)
 
 pub overflow_add-rest : goal.overflow_add-rest
-overflow_add-rest c = omega (arith, (by-second (goal.at.overflow_add-rest c).After-way-by_second), c.less-rest.ensures)
+overflow_add-rest c = omega (arith, (by-second (goal.at.overflow_add-rest c).After-way-by_second), c.saturating_sub-rest.ensures)
 
 pub returns : goal.returns
 unfolding to_end_of side_of
-returns c = (cc, omega (arith, c.lesser.ensures, (by_first (goal.at.returns c).After-way-by_first), (by-second (goal.at.returns c).After-way-by_second)))
+returns c = (cc, omega (arith, c.min.ensures, (by_first (goal.at.returns c).After-way-by_first), (by-second (goal.at.returns c).After-way-by_second)))

@@ -1,6 +1,6 @@
 -- The verdict, told.
-use Rattle.exports.proofs.Telling.{counts-answered}
+use Rattle.exports.proofs.Telling.{told}
 use Rattle.exports.proofs.counts.kc_augmentation_counts.Goals as goal
 
-pub returns : goal.returns
-returns c = let r = counts-answered c.counts-answer.ensures c.tell.ensures in record { told = r.0; counts_answered = r.1 }
+pub returns-clause-told : goal.returns-clause-told
+returns-clause-told c = told c.counts-answer.ensures.verdict c.tell.ensures

@@ -1,9 +1,11 @@
--- The network that was read, or a refusal.
-use Rattle.exports.proofs.Telling.{network-read, network-refused}
+-- The sizes of what is told.
+use mathlib.Core.Path.{ap}
+use Rattle.exports.specs.Told.{size_read}
 use Rattle.exports.proofs.told.tell_network.Goals as goal
 
-pub returns-in-Read : goal.returns-in-Read
-returns-in-Read c = network-read c.in-Read.is
-
-pub returns-in-Refused : goal.returns-in-Refused
-returns-in-Refused c = network-refused c.in-Refused.is
+pub returns : goal.returns
+unfolding size_read
+returns c = record {
+  told = record { result_is = ap (λ s. s.edges) c.tell-size.ensures.result_is; refusal = c.tell-size.ensures.refusal };
+  nodes_are = ap (λ s. s.nodes) c.tell-size.ensures.result_is;
+}

@@ -1,12 +1,9 @@
--- `count_below` keeps a tally.
-use Prim.Native.Nat.{◌-◌}
+-- The count so far is that of the numbers passed.
+use mathlib.Core.Path.{◌≡◌}
 use lib.Dec.{ltb}
-use lib.ListN.{length}
-use Rattle.layout.proofs.Laws.Tally.{Tally}
+use lib.ListN.{take}
+use Rattle.std.specs.List.{count_by}
 use Rattle.layout.proofs.stretch.count_below.Given as goal
 
-abbrev pub invariant-loop-k : goal.invariant-loop-k
-invariant-loop-k l = Tally (λ t. ltb t l.limit) l.numbers l.count l.k
-
-abbrev pub decreases-loop-k : goal.decreases-loop-k
-decreases-loop-k l = length l.numbers - l.k
+abbrev pub invariant-loop-n : goal.invariant-loop-n
+invariant-loop-n l = l.count ≡ count_by (λ t. ltb t l.limit) (take l.n-index l.numbers)

@@ -9,4 +9,4 @@ pub returns-then-b-eq0 : goal.returns-then-b-eq0
 returns-then-b-eq0 c = lesser-second-none _ _ c.if-b-eq0.true
 
 pub returns : goal.returns
-returns c = c.lesser.ensures ∙ lesser-both _ _ c.if-a-eq0.false c.if-b-eq0.false
+returns c = c.min.ensures ∙ lesser-both _ _ c.if-a-eq0.false c.if-b-eq0.false

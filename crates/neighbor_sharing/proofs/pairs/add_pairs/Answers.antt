@@ -18,7 +18,7 @@ pub count_within-found-requires : goal.count_within-found-requires
 count_within-found-requires c = (c.shortest_route-shortest.ensures, c.if-xs-gt-MAX_EVENTS.false, c.if-ys-gt-MAX_EVENTS.false)
 
 pub loop-k-preserved : goal.loop-k-preserved
-loop-k-preserved c = rw (add-one c.loop-k.k) (running-next c.loop-k.invariant c.change_from.ensures (rw c.value_at-threshold.ensures at c.count_within-found.ensures))
+loop-k-preserved c = rw (add-one c.loop-k.k) (running-next c.loop-k.invariant c.change_from.ensures c.count_within-found.ensures)
 
 pub shape_of-totals : goal.shape_of-totals
 shape_of-totals c = c.loop-k.invariant.same_length

@@ -1,6 +1,5 @@
 -- The numbers of the thresholds passed have been added to their totals, and the last of them to all totals behind.
-use Prim.Native.Nat.{◌-◌}
-use lib.ListN.{length, get_or}
+use lib.ListN.{get_or}
 use Rattle.edge_pair.proofs.Laws.Totals.{Running}
 use Rattle.neighbor_sharing.specs.Joined.{shared_within}
 use Rattle.neighbor_sharing.proofs.pairs.add_pairs.Given as goal
@@ -8,6 +7,3 @@ use Rattle.neighbor_sharing.proofs.pairs.add_pairs.Given as goal
 abbrev pub invariant-loop-k : goal.invariant-loop-k
 invariant-loop-k l =
     Running l.k l.last (λ j. shared_within (get_or l.thresholds j 0) l.edges l.xs l.ys) l.initial.totals l.totals
-
-abbrev pub decreases-loop-k : goal.decreases-loop-k
-decreases-loop-k l = length l.thresholds - l.k

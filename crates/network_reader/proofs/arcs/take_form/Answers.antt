@@ -11,4 +11,4 @@ pub returns-in-Problem : goal.returns-in-Problem
 returns-in-Problem c = rw c.in-Problem.is (c.take_problem.ensures.over _ _ _)
 
 pub returns-in-Arc : goal.returns-in-Arc
-returns-in-Arc c = rw c.in-Arc.is c.take_next.ensures
+returns-in-Arc c = rw c.in-Arc.is c.take_arc.ensures

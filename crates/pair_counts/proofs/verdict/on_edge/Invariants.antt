@@ -1,10 +1,6 @@
-use Prim.Native.Nat.{◌-◌}
-use lib.ListN.{length}
+-- The events so far are counted.
 use Rattle.pair_counts.proofs.Laws.Tally.{OnEdgeTo}
 use Rattle.pair_counts.proofs.verdict.on_edge.Given as goal
 
 abbrev pub invariant-loop-k : goal.invariant-loop-k
 invariant-loop-k l = OnEdgeTo l.sets l.edges l.s l.e l.count l.k
-
-abbrev pub decreases-loop-k : goal.decreases-loop-k
-decreases-loop-k l = length l.edges - l.k

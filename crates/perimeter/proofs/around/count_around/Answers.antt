@@ -4,14 +4,11 @@ use Rattle.model.proofs.Laws.Checks.{network-accepted}
 use Rattle.perimeter.proofs.Whole.{whole-count, prepared}
 use Rattle.perimeter.proofs.around.count_around.Goals as goal
 
-pub bounds-firsts-edge : goal.bounds-firsts-edge
-bounds-firsts-edge c = omega (arith, (network-accepted _ c.requires.lengths_value).firsts_length)
+pub bounds-network-edge : goal.bounds-network-edge
+bounds-network-edge c = omega (arith, (network-accepted _ c.requires.lengths_value).firsts_length)
 
-pub bounds-seconds-edge : goal.bounds-seconds-edge
-bounds-seconds-edge c = omega (arith, (network-accepted _ c.requires.lengths_value).seconds_length)
-
-pub overflow_cast-centre-2 : goal.overflow_cast-centre-2
-overflow_cast-centre-2 c = omega (arith, c.type_inv.lengths c.args.edge)
+pub bounds-network-edge-2 : goal.bounds-network-edge-2
+bounds-network-edge-2 c = omega (arith, (network-accepted _ c.requires.lengths_value).seconds_length)
 
 pub fill_row-requires : goal.fill_row-requires
 fill_row-requires c = let is = network-accepted _ c.requires.lengths_value in

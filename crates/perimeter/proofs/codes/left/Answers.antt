@@ -6,4 +6,4 @@ pub returns-then-c-eq0 : goal.returns-then-c-eq0
 returns-then-c-eq0 c = left-none _ _ c.if-c-eq0.true
 
 pub returns : goal.returns
-returns c = c.less.ensures ∙ left-metres _ _ c.if-c-eq0.false
+returns c = c.saturating_sub.ensures ∙ left-metres _ _ c.if-c-eq0.false

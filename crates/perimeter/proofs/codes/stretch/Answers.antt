@@ -13,4 +13,5 @@ unfolding difference
 overflow_add-result c = search rules
 
 pub returns : goal.returns
-returns c = ap (λ (n : ℕ). n + 1) c.apart.ensures ∙ along-metres _ _ _ (c.if-not-own.false)
+unfolding difference
+returns c = ap (λ (n : ℕ). n + 1) c.abs_diff.ensures ∙ along-metres _ _ _ (c.if-not-own.false)

@@ -3,34 +3,32 @@ use Rattle.perimeter.specs.Counts.{edge_at}
 use Rattle.perimeter.specs.Sight.{met_count}
 use Rattle.perimeter.proofs.Tally.{ends-counted}
 use native.Mathlib.Omega.{arith}
+use Prim.Native.Nat.{ℕ, ◌≤◌, ◌<◌}
+use Rattle.std.proofs.Common.{rules}
+use Rattle.perimeter.specs.Reach.{farthest}
 use Rattle.perimeter.proofs.counts.count_edge.Goals as goal
 
-pub overflow_cast-firsts : goal.overflow_cast-firsts
-overflow_cast-firsts c = omega (arith, c.type_inv.firsts c.args.j)
-
-pub overflow_sub-firsts : goal.overflow_sub-firsts
-overflow_sub-firsts c = (c.requires.prepared.first_stands _ c.requires.j_in_bounds).from_one
+pub overflow_sub-network : goal.overflow_sub-network
+overflow_sub-network c = (c.requires.prepared.first_stands _ c.requires.j_in_bounds).from_one
 
 pub reach-end1-requires : goal.reach-end1-requires
 reach-end1-requires c = record { k_in_bounds = omega (arith, c.requires.prepared.first_stands c.args.j c.requires.j_in_bounds); near = c.requires.prepared.near }
 
-pub overflow_cast-seconds : goal.overflow_cast-seconds
-overflow_cast-seconds c = omega (arith, c.type_inv.seconds c.args.j)
-
-pub overflow_sub-seconds : goal.overflow_sub-seconds
-overflow_sub-seconds c = (c.requires.prepared.second_stands _ c.requires.j_in_bounds).from_one
+pub overflow_sub-network-2 : goal.overflow_sub-network-2
+overflow_sub-network-2 c = (c.requires.prepared.second_stands _ c.requires.j_in_bounds).from_one
 
 pub reach-end2-requires : goal.reach-end2-requires
 reach-end2-requires c = record { k_in_bounds = omega (arith, c.requires.prepared.second_stands c.args.j c.requires.j_in_bounds); near = c.requires.prepared.near }
 
-pub overflow_cast-lengths : goal.overflow_cast-lengths
-overflow_cast-lengths c = omega (arith, c.type_inv.lengths c.args.j)
+-- a length is a number of 32 bits
+small : {n : ℕ} → n < 4294967296 → n ≤ farthest
+small h = omega (arith, h)
 
 pub count_met-requires : goal.count_met-requires
 count_met-requires c = record {
   end1_small = c.reach-end1.ensures.small;
   end2_small = c.reach-end2.ensures.small;
-  length_small = omega (arith, c.type_inv.lengths c.args.j);
+  length_small = small (search rules);
   offset_small = omega (arith, c.requires.prepared.near.offset_small);
   radius_small = omega (arith, c.requires.prepared.near.radius_small);
 }

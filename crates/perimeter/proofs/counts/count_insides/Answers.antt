@@ -1,4 +1,4 @@
-use native.Mathlib.Omega.{arith}
+use Rattle.std.proofs.Common.{arith}
 use Rattle.perimeter.proofs.Tally.{tally-begins, tally-goes-on, tally-ends}
 use Rattle.perimeter.proofs.counts.count_insides.Goals as goal
 

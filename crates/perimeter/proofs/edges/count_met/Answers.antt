@@ -11,8 +11,8 @@ counted : (c : After-first_met-n4) → MetCounted c.args.s (c.first_met-n1.resul
 counted c =
     four-tests c.args.s
     c.left-by_end1.ensures
-    (c.less-by_end2.ensures ∙ ap (λ k. c.args.s.length - k) c.left.ensures)
-    c.less-before.ensures
+    (c.saturating_sub-by_end2.ensures ∙ ap (λ k. c.args.s.length - k) c.left.ensures)
+    c.saturating_sub-before.ensures
     refl
     c.first_met-n1.ensures
     c.first_met-n2.ensures

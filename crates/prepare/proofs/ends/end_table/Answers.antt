@@ -9,7 +9,7 @@ pub slice_bounds-wanted-end : goal.slice_bounds-wanted-end
 slice_bounds-wanted-end c = (is-network _ _ _ c.requires).nodes_to
 
 pub slice_bounds-fill_rows-end : goal.slice_bounds-fill_rows-end
-slice_bounds-fill_rows-end c = sym (length-take-le c.args.nodes _ (is-network _ _ _ c.requires).nodes_to)
+slice_bounds-fill_rows-end c = sym (length-take-le c.args.network.nodes _ (is-network _ _ _ c.requires).nodes_to)
 
 pub fill_rows-requires : goal.fill_rows-requires
-fill_rows-requires c = (c.requires, length-take-le c.args.nodes _ (is-network _ _ _ c.requires).nodes_to, unmarked c.args.nodes 512 (is-network _ _ _ c.requires).nodes_to)
+fill_rows-requires c = (c.requires, length-take-le c.args.network.nodes _ (is-network _ _ _ c.requires).nodes_to, unmarked c.args.network.nodes 512 (is-network _ _ _ c.requires).nodes_to)

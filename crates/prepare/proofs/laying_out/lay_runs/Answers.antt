@@ -8,7 +8,7 @@ use Rattle.prepare.proofs.laying_out.lay_runs.Goals.{After-greatest_set}
 use Rattle.prepare.proofs.laying_out.lay_runs.Goals as goal
 
 -- one more than the greatest set number
-set-count : (c : After-greatest_set) → c.greatest_set.result + 1 ≡ set_count c.args.sets.now
+set-count : (c : After-greatest_set) → c.greatest_set.result + 1 ≡ set_count c.args.reports.sets.now
 unfolding set_count
 set-count c = add-one _ ∙ ap suc c.greatest_set.ensures
 

@@ -1,13 +1,7 @@
 -- The values gathered, and those still to come, are all of the set's.
-use mathlib.Core.Path.{◌≡◌}
-use Prim.Native.Nat.{◌-◌, ◌≤◌}
-use lib.ListN.{length}
 use Rattle.prepare.specs.Prepared.{KeptFrom}
 use Rattle.prepare.proofs.Laws.Gathering.{Gathering}
 use Rattle.prepare.proofs.sets.gather.Given as goal
 
 abbrev pub invariant-loop-k : goal.invariant-loop-k
-invariant-loop-k l = (l.k ≤ length l.sets) × (length l.out ≡ length l.initial.out) × Gathering l.sets l.values l.set l.n l.k l.out × KeptFrom l.n l.initial.out l.out
-
-abbrev pub decreases-loop-k : goal.decreases-loop-k
-decreases-loop-k l = length l.sets - l.k
+invariant-loop-k l = Gathering l.sets l.values l.set l.n l.k l.out × KeptFrom l.n l.initial.out l.out

@@ -1,18 +1,17 @@
 -- `check_table`: the tests of the definition, in its order.
-use Rattle.model.proofs.Laws.Refusal.{stops-here}
+use mathlib.Core.Path.{sym, ◌∙◌}
+use borrow.Author.Tests.{leb-true}
+use Rattle.model.proofs.Laws.CheckParts.{room-accepts}
+use Rattle.model.proofs.Laws.Refusal.{or-else-next, or-else-refused}
 use Rattle.printing.specs.Answers.{table_bytes_check}
-use Rattle.printing.proofs.Laws.Verdict.{no-room-for-names, no-room-for-rows, table_fits}
+use Rattle.printing.proofs.Laws.Verdict.{room-refused}
 use Rattle.printing.proofs.table.check_table.Goals as goal
 
-pub returns-in-Refused : goal.returns-in-Refused
+pub returns-then-not-table_fits : goal.returns-then-not-table_fits
 unfolding table_bytes_check
-returns-in-Refused c = search stops-here depth 9
-
-pub returns-then-out-lt-NAMES : goal.returns-then-out-lt-NAMES
-returns-then-out-lt-NAMES c = no-room-for-names _ _ _ _ _ _ c.check_columns-columns.ensures c.in_default.is c.if-out-lt-NAMES.true
-
-pub returns-then-not-rows_fit : goal.returns-then-not-rows_fit
-returns-then-not-rows_fit c = no-room-for-rows _ _ _ _ _ _ c.check_columns-columns.ensures c.in_default.is c.if-out-lt-NAMES.false c.rows_fit.ensures (c.if-not-rows_fit.true)
+returns-then-not-table_fits c = sym (or-else-next _ (sym c.check_columns.ensures ∙ c.in_ok-check_columns.was) ∙ or-else-refused _ (room-refused _ _ (sym c.table_fits.ensures ∙ c.if-not-table_fits.true)))
 
 pub returns : goal.returns
-returns c = table_fits _ _ _ _ _ _ c.check_columns-columns.ensures c.in_default.is c.if-out-lt-NAMES.false c.rows_fit.ensures (c.if-not-rows_fit.false) c.check_thresholds.ensures
+unfolding table_bytes_check
+returns c = c.check_thresholds.ensures ∙
+    sym (or-else-next _ (sym c.check_columns.ensures ∙ c.in_ok-check_columns.was) ∙ or-else-next _ (room-accepts _ _ (leb-true _ _ (sym c.table_fits.ensures ∙ c.if-not-table_fits.false))))

@@ -1,11 +1,6 @@
 -- `put` copies one byte each time.
-use Prim.Native.Nat.{◌-◌}
-use lib.ListN.{length}
 use Rattle.printing.proofs.Laws.Writing.{Copying}
 use Rattle.printing.proofs.writing.put.Given as goal
 
 abbrev pub invariant-loop-i : goal.invariant-loop-i
 invariant-loop-i l = Copying l.initial.out l.at l.bytes l.out l.i
-
-abbrev pub decreases-loop-i : goal.decreases-loop-i
-decreases-loop-i l = length l.bytes - l.i

@@ -1,37 +1,30 @@
 -- The events so far are counted, those at one offset together.
-use mathlib.Core.Path.{◌≡◌, refl}
-use native.Mathlib.Omega.{arith}
-use lib.Dec.{leb}
-use lib.ListN.{length, get_or}
+use Rattle.std.proofs.Common.{◌≡◌, ℕ, nat_eq, leb, rules}
+use Rattle.std.proofs.lemmas.List.Sorted.{answers_always}
+use Rattle.std.specs.Slice.Iter.{chunk_by_rest}
 use Rattle.model.specs.Counting.{count_if}
-use Rattle.model.proofs.Laws.Equals.{Equals, equals-end}
-use Rattle.range_query.specs.Ladder.{found_in, bucket_in}
+use Rattle.range_query.specs.Ladder.{bucket_in}
 use Rattle.range_query.specs.Metres.{metres_between, tallied}
-use Rattle.range_query.proofs.Laws.Pairs.{events-none, events-more, row-found}
-use Rattle.range_query.proofs.own.add_along.Goals.{After-equals_end-end}
+use Rattle.range_query.proofs.Laws.Parted.{Parted, end-all, end-next, events-none, events-more, events-all}
+use Rattle.range_query.proofs.own.add_along.Goals.{Start}
 use Rattle.range_query.proofs.own.add_along.Goals as goal
 
-run : (c : After-equals_end-end) → Equals c.args.xs.now c.loop-i.i c.equals_end-end.result
-run c = equals-end c.args.xs.now c.loop-i.i c.equals_end-end.ensures c.loop-i-test.true
+-- the pairs of an event at an offset up to a bucket
+row : (c : Start) → ℕ → ℕ → ℕ
+row c k x = count_if (λ y. leb (bucket_in c.args.ladder.now (metres_between c.args.edges x y)) k) c.args.ys.now
 
-pub loop-i-init : goal.loop-i-init
-loop-i-init c = (omega arith, events-none _ (λ k x. count_if (λ y. leb (bucket_in c.args.ladder.now (metres_between c.args.edges x y)) k) c.args.ys.now) c.args.xs.now _)
+pub loop-equals-init : goal.loop-equals-init
+unfolding row
+loop-equals-init c =
+    let e : c.into_iter-equals-iterator.result.rest.now ≡ c.args.xs.now = cc in
+    rw e (end-all c.args.xs.now, events-none _ (row (goal.at.loop-equals-init c).Start) c.args.xs.now _)
 
-pub overflow_sub-end : goal.overflow_sub-end
-overflow_sub-end c = omega (arith, (run (goal.at.overflow_sub-end c).After-equals_end-end).further)
-
-pub add_row_along-requires : goal.add_row_along-requires
-add_row_along-requires c = (c.requires.0, c.requires.1)
-
-pub loop-i-smaller : goal.loop-i-smaller
-loop-i-smaller c = omega (arith, (run (goal.at.loop-i-smaller c).After-equals_end-end).further, (run (goal.at.loop-i-smaller c).After-equals_end-end).within)
-
-pub loop-i-preserved : goal.loop-i-preserved
-loop-i-preserved c = ((run (goal.at.loop-i-preserved c).After-equals_end-end).within, events-more _ (λ k x. count_if (λ y. leb (bucket_in c.args.ladder.now (metres_between c.args.edges x y)) k) c.args.ys.now) (run (goal.at.loop-i-preserved c).After-equals_end-end) c.loop-i.invariant.1 (row-found c.args.ladder.now _ (metres_between c.args.edges (get_or c.args.xs.now c.loop-i.i 0)) (found_in c.args.ladder.now) c.args.ys.now (λ d. refl) c.add_row_along.ensures))
-
-pub shape_of-totals : goal.shape_of-totals
-shape_of-totals c = c.loop-i.invariant.1.same_length
+pub loop-equals-preserved : goal.loop-equals-preserved
+unfolding row
+loop-equals-preserved c =
+    let parted : Parted c.args.xs.now _ _ _ = record { end = c.loop-equals.invariant.0; joined = c.in-Some.ensures.steps.0; some = c.in-Some.ensures.steps.1; same = (c.in-Some.ensures.steps.2 nat_eq (answers_always _ _ _ (λ f a r g h. search rules))).1 } in
+    (end-next parted, events-more _ (row (goal.at.loop-equals-preserved c).Start) parted c.loop-equals.invariant.1 c.add_row_along.ensures)
 
 pub returns : goal.returns
-unfolding tallied
-returns c = let e : c.loop-i.i ≡ length c.args.xs.now = omega arith in rw e at c.loop-i.invariant.1
+unfolding tallied row
+returns c = events-all _ (row (goal.at.returns c).Start) c.args.xs.now (chunk_by_rest c.loop-equals.equals-iterator) c.in-None.ensures.steps.0 c.loop-equals.invariant.1

@@ -1,49 +1,20 @@
 -- The events so far are counted with each other.
-use mathlib.Core.Path.{◌≡◌, refl, sym}
-use Prim.Native.Nat.{ℕ, ◌-◌, ◌*◌, ◌≤◌}
-use native.Mathlib.Nat.{mul-le-mul}
-use native.Mathlib.Omega.{arith}
-use lib.ListN.{length, get_or, take}
-use lib.Seq.{length-take-le}
-use Rattle.model.specs.Limits.{max_events}
-use Rattle.model.proofs.Laws.Equals.{Equals, equals-end}
-use Rattle.range_query.specs.Ladder.{found_in}
-use Rattle.range_query.specs.Metres.{metres_between}
-use Rattle.range_query.proofs.Laws.Own.{own-none, own-more, own-all}
-use Rattle.range_query.proofs.Laws.Pairs.{row-found}
-use Rattle.range_query.proofs.own.add_own.Goals.{After-equals_end-end}
+use Rattle.std.proofs.Common.{◌≡◌, ◌-◌, nat_eq, refl, length, arith, rules}
+use Rattle.std.proofs.lemmas.List.Sorted.{answers_always}
+use Rattle.range_query.proofs.Laws.Own.{own-none, own-parted, own-all}
+use Rattle.range_query.proofs.Laws.Parted.{Parted, end-all, end-next, parted-many}
 use Rattle.range_query.proofs.own.add_own.Goals as goal
 
-run : (c : After-equals_end-end) → Equals c.args.xs.now c.loop-i.i c.equals_end-end.result
-run c = equals-end c.args.xs.now c.loop-i.i c.equals_end-end.ensures c.loop-i-test.true
+pub loop-equals-init : goal.loop-equals-init
+loop-equals-init c =
+    let e : c.into_iter-equals-iterator.result.rest.now ≡ c.args.xs.now = cc in
+    let none : length c.args.xs.now - length c.args.xs.now ≡ 0 = omega arith in
+    rw (e, none) (end-all c.args.xs.now, refl, own-none c.args.ladder.now c.args.edges c.args.xs.now _)
 
--- the square of so many fits
-few : (n : ℕ) → n ≤ max_events → n * n ≤ max_events * max_events
-few n h = mul-le-mul {m₁ = n} {m₂ = max_events} h h
-
-pub loop-i-init : goal.loop-i-init
-loop-i-init c = (omega arith, own-none c.args.ladder.now c.args.edges c.args.xs.now _)
-
-pub overflow_sub-many : goal.overflow_sub-many
-overflow_sub-many c = omega (arith, (run c).further)
-
-pub overflow_mul-many : goal.overflow_mul-many
-overflow_mul-many c = omega (arith, (run (goal.at.overflow_mul-many c).After-equals_end-end).within, c.requires.3)
-
-pub slice_bounds-add_row_along-end : goal.slice_bounds-add_row_along-end
-slice_bounds-add_row_along-end c = sym (length-take-le _ _ c.loop-i.invariant.0)
-
-pub overflow_mul-many-in-loop-i : goal.overflow_mul-many-in-loop-i
-overflow_mul-many-in-loop-i c = omega (arith, few (c.equals_end-end.result - c.loop-i.i) (omega (arith, (run (goal.at.overflow_mul-many-in-loop-i c).After-equals_end-end).within, c.requires.3)))
-
-pub loop-i-smaller : goal.loop-i-smaller
-loop-i-smaller c = omega (arith, (run (goal.at.loop-i-smaller c).After-equals_end-end).further, (run (goal.at.loop-i-smaller c).After-equals_end-end).within)
-
-pub loop-i-preserved : goal.loop-i-preserved
-loop-i-preserved c = ((run (goal.at.loop-i-preserved c).After-equals_end-end).within, own-more c.args.ladder.now c.args.edges c.args.xs.now c.requires.2 (run (goal.at.loop-i-preserved c).After-equals_end-end) c.find-at_once.ensures c.loop-i.invariant.1 (row-found c.args.ladder.now _ (metres_between c.args.edges (get_or c.args.xs.now c.loop-i.i 0)) (found_in c.args.ladder.now) (take c.loop-i.i c.args.xs.now) (λ d. refl) c.add_row_along.ensures) c.change_from.ensures)
-
-pub shape_of-totals : goal.shape_of-totals
-shape_of-totals c = c.loop-i.invariant.1.same_length
+pub loop-equals-preserved : goal.loop-equals-preserved
+loop-equals-preserved c =
+    let parted : Parted c.args.xs.now _ _ _ = record { end = c.loop-equals.invariant.0; joined = c.in-Some.ensures.steps.0; some = c.in-Some.ensures.steps.1; same = (c.in-Some.ensures.steps.2 nat_eq (answers_always _ _ _ (λ f a r g h. search rules))).1 } in
+    (end-next parted, omega (arith, parted-many parted, (end-next parted).shorter, c.loop-equals.invariant.1), own-parted c.args.ladder.now c.args.edges c.args.xs.now c.requires.2 parted c.find-at_once.ensures c.loop-equals.invariant.2 (rw (← c.loop-equals.invariant.1) c.add_row_along.ensures) c.change_from.ensures)
 
 pub returns : goal.returns
-returns c = let e : c.loop-i.i ≡ length c.args.xs.now = omega arith in own-all c.args.ladder.now c.args.edges c.args.xs.now e c.loop-i.invariant.1
+returns c = own-all c.args.ladder.now c.args.edges c.args.xs.now (omega (arith, c.in-None.ensures.steps.0)) c.loop-equals.invariant.2

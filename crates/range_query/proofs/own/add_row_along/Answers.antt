@@ -1,28 +1,7 @@
--- The offsets so far are counted, each from its own threshold on.
-use mathlib.Core.Path.{◌≡◌, ap, ◌∙◌}
-use native.Mathlib.Omega.{arith}
-use lib.ListN.{length}
-use Rattle.edge_pair.specs.Edges.{side_of}
-use Rattle.range_query.specs.Ladder.{found_in}
+-- The metres to each offset.
+use Rattle.std.proofs.Common.{rules}
 use Rattle.range_query.specs.Metres.{metres_between}
-use Rattle.range_query.proofs.Laws.Pairs.{row-none, row_more, row-all}
 use Rattle.range_query.proofs.own.add_row_along.Goals as goal
 
-pub loop-j-init : goal.loop-j-init
-loop-j-init c = (omega arith, row-none _ _ (λ y. found_in c.args.ladder.now (metres_between c.args.edges c.args.x y)) c.args.ys.now _)
-
-pub meet-metres-requires : goal.meet-metres-requires
-unfolding side_of
-meet-metres-requires c = (c.to_end-p.ensures.1, c.to_end-q.ensures.1, c.to_end-p.ensures.0, c.to_end-q.ensures.0)
-
-pub find-step-requires : goal.find-step-requires
-find-step-requires c = (c.requires.0, c.requires.1)
-
-pub loop-j-preserved : goal.loop-j-preserved
-loop-j-preserved c = (omega arith, row_more _ _ (λ y. found_in c.args.ladder.now (metres_between c.args.edges c.args.x y)) c.args.ys.now c.loop-j.j (c.find-step.ensures ∙ ap (found_in c.args.ladder.now) c.meet-metres.ensures) c.loop-j.invariant.1 c.change_from.ensures)
-
-pub shape_of-totals : goal.shape_of-totals
-shape_of-totals c = c.loop-j.invariant.1.same_length
-
 pub returns : goal.returns
-returns c = let e : c.loop-j.j ≡ length c.args.ys.now = omega arith in row-all _ _ (λ y. found_in c.args.ladder.now (metres_between c.args.edges c.args.x y)) c.args.ys.now e c.loop-j.invariant.1
+returns c = c.add_row.ensures (metres_between c.args.edges c.args.x) (λ y r h made. search rules)

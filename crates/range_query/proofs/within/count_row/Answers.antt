@@ -1,26 +1,18 @@
 -- The offsets so far that are within the limit are counted.
-use mathlib.Core.Path.{◌∙◌, ap}
-use Prim.Native.Nat.{ℕ}
-use native.Mathlib.Omega.{arith}
-use lib.Dec.{leb}
+use Rattle.std.proofs.Common.{Bool, ◌≡◌, ℕ, ap, ◌∙◌, leb, get_or, arith}
+use Rattle.std.proofs.lemmas.List.{take_all}
 use Rattle.model.specs.Counting.{one_if}
 use Rattle.model.proofs.Laws.Counting.{one-if-one}
-use Rattle.edge_pair.specs.Edges.{side_of}
-use Rattle.range_query.proofs.Laws.Within.{row-begins, row-onward, row-counted}
+use Rattle.range_query.specs.Metres.{metres_between}
+use Rattle.range_query.proofs.Laws.Pairs.{count-next}
+use Rattle.range_query.proofs.Laws.Within.{number-of}
 use Rattle.range_query.proofs.within.count_row.Goals as goal
 
-pub loop-j-init : goal.loop-j-init
-loop-j-init c = row-begins _ _
-
-pub meet-metres-requires : goal.meet-metres-requires
-unfolding side_of
-meet-metres-requires c = (c.to_end-p.ensures.1, c.to_end-q.ensures.1, c.to_end-p.ensures.0, c.to_end-q.ensures.0)
-
-pub overflow_add-count : goal.overflow_add-count
-overflow_add-count c = omega (arith, c.loop-j.invariant.few, c.one_if_within-count.ensures, one-if-one (leb c.meet-metres.result c.args.limit))
-
-pub loop-j-preserved : goal.loop-j-preserved
-loop-j-preserved c = row-onward _ _ c.loop-j.invariant c.loop-j-test.true (c.one_if_within-count.ensures ∙ ap (λ (d : ℕ). one_if (leb d c.args.limit)) c.meet-metres.ensures)
+pub loop-y-preserved : goal.loop-y-preserved
+loop-y-preserved c =
+    let test : ℕ → Bool = λ y. leb (metres_between c.args.edges c.args.x y) c.args.limit in
+    let one : c.from-count.result ≡ one_if (test (get_or c.args.ys.now c.loop-y.y-index 0)) = c.from-count.ensures ∙ number-of _ ∙ ap (λ (d : ℕ). one_if (leb d c.args.limit)) c.meet-metres.ensures in
+    (omega (arith, one, count-next test c.args.ys.now c.loop-y.y-index c.loop-y-test.true), omega (arith, one, one-if-one (test (get_or c.args.ys.now c.loop-y.y-index 0))))
 
 pub returns : goal.returns
-returns c = row-counted _ _ c.loop-j.invariant c.loop-j-test.false
+returns c = (rw (take_all c.loop-y.y-index c.args.ys.now c.loop-y-test.false) at c.loop-y.invariant.0, omega arith)

@@ -1,43 +1,20 @@
 -- The pairs of the events so far are counted, those at one offset together.
-use Prim.Native.Nat.{◌-◌, ◌*◌, ◌≤◌}
-use native.Mathlib.Omega.{arith}
-use Rattle.model.specs.Limits.{max_events}
-use Rattle.model.proofs.Laws.Equals.{Equals, equals-end}
-use Rattle.range_query.proofs.Laws.Within.{equals-few, pairs-begin, pairs-onward, pairs-counted}
-use Rattle.range_query.proofs.within.count_within.Goals.{After-count_row, After-equals_end-end}
+use Rattle.std.proofs.Common.{◌≡◌, ◌-◌, nat_eq, length, arith, rules}
+use Rattle.std.proofs.lemmas.List.Sorted.{answers_always}
+use Rattle.range_query.proofs.Laws.Parted.{Parted, end-all, end-next}
+use Rattle.range_query.proofs.Laws.Within.{pairs-begin, pairs-onward, pairs-counted}
 use Rattle.range_query.proofs.within.count_within.Goals as goal
 
--- the events at one offset
-run : (c : After-equals_end-end) → Equals c.args.xs.now c.loop-i.i c.equals_end-end.result
-run c = equals-end _ _ c.equals_end-end.ensures c.loop-i-test.true
+pub loop-equals-init : goal.loop-equals-init
+loop-equals-init c =
+    let e : c.into_iter-equals-iterator.result.rest.now ≡ c.args.xs.now = cc in
+    let none : length c.args.xs.now - length c.args.xs.now ≡ 0 = omega arith in
+    rw (e, none) (end-all c.args.xs.now, pairs-begin _ _ _ _)
 
--- their pairs are few enough
-few : (c : After-count_row) → (c.equals_end-end.result - c.loop-i.i) * c.count_row.result ≤ (c.equals_end-end.result - c.loop-i.i) * max_events
-few c = equals-few _ c.if-ys-gt-MAX_EVENTS.false c.count_row.ensures.1
-
-pub returns-then-xs-gt-MAX_EVENTS : goal.returns-then-xs-gt-MAX_EVENTS
-returns-then-xs-gt-MAX_EVENTS c = λ few-xs few-ys. absurd (omega arith)
-
-pub returns-then-ys-gt-MAX_EVENTS : goal.returns-then-ys-gt-MAX_EVENTS
-returns-then-ys-gt-MAX_EVENTS c = λ few-xs few-ys. absurd (omega arith)
-
-pub loop-i-init : goal.loop-i-init
-loop-i-init c = pairs-begin _ _ _ _
-
-pub overflow_sub-equals : goal.overflow_sub-equals
-overflow_sub-equals c = omega (arith, (run c).further)
-
-pub overflow_mul-total : goal.overflow_mul-total
-overflow_mul-total c = omega (arith, (few c), (run (goal.at.overflow_mul-total c).After-equals_end-end).within, c.if-xs-gt-MAX_EVENTS.false)
-
-pub overflow_add-total : goal.overflow_add-total
-overflow_add-total c = omega (arith, c.loop-i.invariant.few, (few c), (run (goal.at.overflow_add-total c).After-equals_end-end).further, (run (goal.at.overflow_add-total c).After-equals_end-end).within, c.if-xs-gt-MAX_EVENTS.false)
-
-pub loop-i-smaller : goal.loop-i-smaller
-loop-i-smaller c = omega (arith, (run (goal.at.loop-i-smaller c).After-equals_end-end).further, (run (goal.at.loop-i-smaller c).After-equals_end-end).within)
-
-pub loop-i-preserved : goal.loop-i-preserved
-loop-i-preserved c = pairs-onward _ _ _ _ c.if-ys-gt-MAX_EVENTS.false c.loop-i.invariant (run (goal.at.loop-i-preserved c).After-equals_end-end) c.count_row.ensures.0 c.count_row.ensures.1
+pub loop-equals-preserved : goal.loop-equals-preserved
+loop-equals-preserved c =
+    let parted : Parted c.args.xs.now _ _ _ = record { end = c.loop-equals.invariant.0; joined = c.in-Some.ensures.steps.0; some = c.in-Some.ensures.steps.1; same = (c.in-Some.ensures.steps.2 nat_eq (answers_always _ _ _ (λ f a r g h. search rules))).1 } in
+    (end-next parted, pairs-onward _ _ _ _ c.if-ys-gt-MAX_EVENTS.false c.loop-equals.invariant.1 parted c.count_row.ensures.0 c.count_row.ensures.1)
 
 pub returns : goal.returns
-returns c = λ few-xs few-ys. pairs-counted _ _ _ _ (omega (arith, c.ranges.threshold)) c.loop-i.invariant c.loop-i-test.false
+returns c = λ few-xs few-ys. pairs-counted _ _ _ _ (omega (arith, c.ranges.threshold)) c.loop-equals.invariant.1 (omega (arith, c.in-None.ensures.steps.0))

@@ -19,4 +19,4 @@ overflow_cast-ys c = omega (arith, c.type_inv.ys (length c.args.ys.now - 1 - c.a
 
 pub returns : goal.returns
 unfolding side_of gap_at is_within_of
-returns c = rw (c.if-first.false, c.less.ensures) refl
+returns c = rw (c.if-first.false, c.saturating_sub.ensures) refl

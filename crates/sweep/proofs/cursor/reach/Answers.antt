@@ -5,8 +5,8 @@ use Rattle.sweep.proofs.cursor.reach.Goals as goal
 
 pub returns-then-cursor : goal.returns-then-cursor
 unfolding reach
-returns-then-cursor c = rw c.if-cursor.true (omega (arith, c.less-then-cursor.ensures, c.less.ensures))
+returns-then-cursor c = rw c.if-cursor.true (omega (arith, c.saturating_sub-then-cursor.ensures, c.saturating_sub.ensures))
 
 pub returns : goal.returns
 unfolding reach
-returns c = rw c.if-cursor.false c.less-2.ensures
+returns c = rw c.if-cursor.false c.saturating_sub-2.ensures

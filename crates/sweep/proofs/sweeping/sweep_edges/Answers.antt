@@ -56,4 +56,4 @@ shape_of-moves c = simp length-set
 
 pub returns : goal.returns
 unfolding side_of
-returns c = all-six _ _ _ _ _ _ _ _ _ _ _ _ _ _ _ _ _ _ _ _ c.requires c.sweep_route.ensures c.sweep_route-2.ensures c.sweep_route-3.ensures c.sweep_route-4.ensures c.below-low.ensures c.sweep_part.ensures c.up_to-high.ensures c.sweep_part-2.ensures
+returns c = all-six _ _ _ _ _ _ _ _ _ _ _ _ _ _ _ _ _ _ _ _ c.requires c.sweep_route.ensures c.sweep_route-2.ensures c.sweep_route-3.ensures c.sweep_route-4.ensures c.below.ensures (c.sweep_part.ensures _ _ c.then_some-low.ensures) c.up_to.ensures (c.sweep_part-2.ensures _ _ c.then_some-high.ensures)

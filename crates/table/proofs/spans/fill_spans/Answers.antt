@@ -22,12 +22,6 @@ offset_bounds-upper-k c = omega arith
 pub bounds-upper-k : goal.bounds-upper-k
 bounds-upper-k c = omega arith
 
-pub overflow_add-k : goal.overflow_add-k
-overflow_add-k c = omega arith
-
-pub loop-k-smaller : goal.loop-k-smaller
-loop-k-smaller c = omega arith
-
 pub loop-k-preserved : goal.loop-k-preserved
 loop-k-preserved c = (
   stored_more _ _ _ _ _ _ c.loop-k.invariant.0 c.loop-k-test.true c.span_at-span.ensures,

@@ -1,10 +1,6 @@
 -- Both ends of the envelopes of the columns so far are stored.
-use Prim.Native.Nat.{◌-◌}
 use Rattle.table.proofs.Laws.Spans.{Stored}
 use Rattle.table.proofs.spans.fill_spans.Given as goal
 
 abbrev pub invariant-loop-k : goal.invariant-loop-k
 invariant-loop-k l = Stored (λ l u. l) l.rows l.width l.greatest l.lower l.k × Stored (λ l u. u) l.rows l.width l.greatest l.upper l.k
-
-abbrev pub decreases-loop-k : goal.decreases-loop-k
-decreases-loop-k l = l.width - l.k

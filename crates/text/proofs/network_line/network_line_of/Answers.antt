@@ -1,59 +1,42 @@
 -- `network_line_of`: the tests of the definition, in its order.
-use mathlib.Core.Path.{sym, ap, ◌∙◌}
-use Rattle.text.specs.Fields.{space}
-use Rattle.text.specs.NetworkText.{network_line_text, problem_in, arc_in}
-use Rattle.text.proofs.Laws.Fields.{begins-length, numbers-from}
+use mathlib.Core.Bool.{or-true}
+use mathlib.Core.Path.{sym, ◌∙◌}
+use Rattle.text.specs.NetworkText.{network_line_text, problem_mark, arc_mark}
+use Rattle.text.proofs.Laws.Fields.{strips-pointwise}
+use Rattle.text.proofs.network_line.network_line_of.Goals.{then-same_bytes-via-then-same_bytes, then-same_bytes-via-else-same_bytes+then-begins_with}
 use Rattle.text.proofs.network_line.network_line_of.Goals as goal
 
 pub returns-then-same_bytes : goal.returns-then-same_bytes
 unfolding network_line_text
-returns-then-same_bytes c = simp (sym c.same_bytes.ensures ∙ c.if-same_bytes.true)
+returns-then-same_bytes c = elim c.then-same_bytes.branch [
+  | then-same_bytes-via-then-same_bytes w ↦ simp (sym c.same_bytes.ensures ∙ w.if-same_bytes.true)
+  | then-same_bytes-via-else-same_bytes+then-begins_with w ↦ simp (sym w.begins_with.ensures ∙ w.if-begins_with.true, or-true)
+]
 
-pub returns-then-begins_with : goal.returns-then-begins_with
+pub returns-in-Some : goal.returns-in-Some
 unfolding network_line_text
-returns-then-begins_with c = simp (
-  sym c.same_bytes.ensures ∙ c.if-same_bytes.false,
-  sym c.begins_with.ensures ∙ c.if-begins_with.true,
-)
-
-pub slice_bounds-numbers_of-count : goal.slice_bounds-numbers_of-count
-slice_bounds-numbers_of-count c = begins-length _ _ (sym c.begins_with-2.ensures ∙ c.if-begins_with-2.true)
-
-pub slice_bounds-numbers_of-start : goal.slice_bounds-numbers_of-start
-slice_bounds-numbers_of-start c = begins-length _ _ (sym c.begins_with-2.ensures ∙ c.if-begins_with-2.true)
-
-pub returns-then-begins_with-2 : goal.returns-then-begins_with-2
-unfolding network_line_text
-returns-then-begins_with-2 c = c.problem_of.ensures ∙
-    ap problem_in (c.numbers_of.ensures ∙ numbers-from space 5 c.args.line.now) ∙
-    simp (
+returns-in-Some c =
+    rw (c.problem_of.ensures, c.numbers_of.ensures, c.in-Some.ensures.cases.1) (simp (
       sym c.same_bytes.ensures ∙ c.if-same_bytes.false,
       sym c.begins_with.ensures ∙ c.if-begins_with.false,
-      sym c.begins_with-2.ensures ∙ c.if-begins_with-2.true,
-    )
+      strips-pointwise problem_mark c.args.line.now ∙ c.in-Some.ensures.cases.0,
+    ))
 
-pub slice_bounds-numbers_of-count-then-begins_with-3 : goal.slice_bounds-numbers_of-count-then-begins_with-3
-slice_bounds-numbers_of-count-then-begins_with-3 c = begins-length _ _ (sym c.begins_with-3.ensures ∙ c.if-begins_with-3.true)
-
-pub slice_bounds-numbers_of-start-then-begins_with-3 : goal.slice_bounds-numbers_of-start-then-begins_with-3
-slice_bounds-numbers_of-start-then-begins_with-3 c = begins-length _ _ (sym c.begins_with-3.ensures ∙ c.if-begins_with-3.true)
-
-pub returns-then-begins_with-3 : goal.returns-then-begins_with-3
+pub returns-in-Some-strip_prefix : goal.returns-in-Some-strip_prefix
 unfolding network_line_text
-returns-then-begins_with-3 c = c.arc_of.ensures ∙
-    ap arc_in (c.numbers_of-then-begins_with-3.ensures ∙ numbers-from space 2 c.args.line.now) ∙
-    simp (
+returns-in-Some-strip_prefix c =
+    rw (c.arc_of.ensures, c.numbers_of-in-Some-strip_prefix.ensures, c.in-Some-strip_prefix.ensures.cases.1) (simp (
       sym c.same_bytes.ensures ∙ c.if-same_bytes.false,
       sym c.begins_with.ensures ∙ c.if-begins_with.false,
-      sym c.begins_with-2.ensures ∙ c.if-begins_with-2.false,
-      sym c.begins_with-3.ensures ∙ c.if-begins_with-3.true,
-    )
+      strips-pointwise problem_mark c.args.line.now ∙ c.in_default.ensures.cases,
+      strips-pointwise arc_mark c.args.line.now ∙ c.in-Some-strip_prefix.ensures.cases.0,
+    ))
 
 pub returns : goal.returns
 unfolding network_line_text
 returns c = simp (
   sym c.same_bytes.ensures ∙ c.if-same_bytes.false,
   sym c.begins_with.ensures ∙ c.if-begins_with.false,
-  sym c.begins_with-2.ensures ∙ c.if-begins_with-2.false,
-  sym c.begins_with-3.ensures ∙ c.if-begins_with-3.false,
+  strips-pointwise problem_mark c.args.line.now ∙ c.in_default.ensures.cases,
+  strips-pointwise arc_mark c.args.line.now ∙ c.in_default-strip_prefix.ensures.cases,
 )

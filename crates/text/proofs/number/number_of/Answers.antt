@@ -3,8 +3,8 @@ use mathlib.Core.Path.{◌∙◌, sym}
 use Rattle.text.proofs.Laws.Numbers.{number_of-parts}
 use Rattle.text.proofs.number.number_of.Goals as goal
 
-pub returns-then-not-has_shape : goal.returns-then-not-has_shape
-returns-then-not-has_shape c = sym (number_of-parts _ _ c.has_shape.ensures ∙ simp (c.if-not-has_shape.true))
+pub returns-then-has_shape : goal.returns-then-has_shape
+returns-then-has_shape c = c.value_of.ensures ∙ sym (number_of-parts _ _ c.has_shape.ensures ∙ simp c.if-has_shape.true)
 
-pub returns : goal.returns
-returns c = c.value_of.ensures ∙ sym (number_of-parts _ _ c.has_shape.ensures ∙ simp (c.if-not-has_shape.false))
+pub returns-else-has_shape : goal.returns-else-has_shape
+returns-else-has_shape c = sym (number_of-parts _ _ c.has_shape.ensures ∙ simp c.if-has_shape.false)

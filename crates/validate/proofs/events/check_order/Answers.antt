@@ -1,24 +1,12 @@
-use mathlib.Core.Path.{sym, ◌∙◌}
-use native.Mathlib.Numerals.{sub-one}
-use native.Mathlib.Omega.{arith}
-use Rattle.model.proofs.Laws.Refusal.{scan_begins, scan-goes-on, scan-stops, scan-ends}
+use Rattle.std.proofs.Common.{arith, rules, get_or}
+use Rattle.std.proofs.Common.{not, pred}
 use Rattle.model.specs.Checks.{order_check}
+use Rattle.model.specs.Events.{event, before}
 use Rattle.validate.proofs.events.check_order.Goals as goal
-
-pub loop-k-init : goal.loop-k-init
-loop-k-init c = scan_begins _ _ _ _
-
-pub returns-then-is_before : goal.returns-then-is_before
-unfolding order_check
-returns-then-is_before c = let at = c.loop-k in
-    sym (scan-stops _ _ at.invariant (omega arith)
-    (rw (← sub-one at.k) (simp (sym c.is_before.ensures ∙ c.if-is_before.true))))
-
-pub loop-k-preserved : goal.loop-k-preserved
-loop-k-preserved c = let at = c.loop-k in
-    scan-goes-on _ _ at.invariant (omega arith)
-    (rw (← sub-one at.k) (simp (sym c.is_before.ensures ∙ c.if-is_before.false)))
 
 pub returns : goal.returns
 unfolding order_check
-returns c = sym (scan-ends _ _ c.loop-k.invariant (omega arith))
+returns c =
+    let es = c.args.edges.now in
+    let xs = c.args.offsets.now in
+    c.first_bad.ensures (λ k. not (before (event (get_or es k 0) (get_or xs k 0)) (event (get_or es (pred k) 0) (get_or xs (pred k) 0)))) _ (omega arith) (λ k r from to says. search rules)

@@ -1,6 +1,0 @@
--- An entry of 32 bits fits a place.
-use Rattle.std.proofs.Common.{arith}
-use Rattle.counting.proofs.runs.place.Goals as goal
-
-pub overflow_cast-result : goal.overflow_cast-result
-overflow_cast-result c = omega (arith, c.type_inv.list c.args.k)
