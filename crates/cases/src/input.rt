@@ -177,7 +177,7 @@ fn next_section<R: Read>(input: &mut R, room: &mut [u32]) -> Option<u32>
 }
 
 // Prints the name of the next case, and answers the number of the function that it is about, 0 where there are no more cases. That of the
-// case before is given, 0 at the start. A list is lent to read with. The answer stays a number because its promise bounds a number.
+// case before is given, 0 at the start. A list is lent to read with.
 pub fn next_case<R: Read, W: Write>(
     input: &mut R,
     output: &mut W,

@@ -3,8 +3,7 @@ ghost use Rattle.std.specs.Prelude.{◌≡◌};
 ghost use Rattle.edge_pair.specs.Edges.{side_of, code_between_of};
 
 // Two edges: their lengths, whether they are one, and the codes of the distances from the first's ends to the second's (first to first,
-// first to second, and so on): 0 where there is no route within the bound, else one more than the metres. They stay codes, the entries of
-// the table as they stand, because each is turned once, by `way` or by the test for 0 before a cursor is made.
+// first to second, and so on), as they stand in a table: 0 where there is no route within the bound, else one more than the metres.
 #[derive(Clone, Copy)]
 pub struct EdgePair {
     pub length1: u32,

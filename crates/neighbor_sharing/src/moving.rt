@@ -49,8 +49,7 @@ fn route_to(
     advance(cursor, ys, edges.length2, x, from)
 }
 
-// The same for a cursor of the window. On two edges there is none, which counts as position 0. The flag is that of the two edges, and
-// stands beside the cursor as `cond same` does in the definition: an Option would be made here and taken apart again.
+// The same for a cursor of the window. On two edges there is none, which counts as position 0.
 fn window_to(same: bool, cursor: Cursor, ys: &[u32], long: u32, x: u32, from: usize) -> usize
     ensures { result ≡ cond same (moved_on cursor long ys.now x from) 0 }
 {
