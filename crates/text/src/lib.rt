@@ -10,4 +10,4 @@ mod search;
 pub use fields::{Numbers, begins_with, numbers_of, same_bytes};
 pub use lines::{Line, csv_line, feed_line};
 pub use network_line::{NetworkLine, network_line_of};
-pub use number::number_of;
+pub use number::{MAX_DIGITS, MAX_NUMBER, number_of};

@@ -3,9 +3,10 @@ ghost use Rattle.std.specs.Prelude.{cond, ◌&&◌, ◌||◌, not, ◌≡◌, eq
 ghost use Rattle.model.specs.Refusal.{is_between_of};
 ghost use Rattle.text.specs.Numbers.{all_digits_of, decimal, max_digits, max_number, number_of};
 
-pub(crate) const MAX_DIGITS: usize = 10;
+// The most digits that a number may have, and the greatest number.
+pub const MAX_DIGITS: usize = 10;
 
-pub(crate) const MAX_NUMBER: u64 = 4_294_967_295;
+pub const MAX_NUMBER: u64 = 4_294_967_295;
 
 // As many bytes as a number may have, the first of them no leading zero.
 #[tactic(auto, unfolding(model::specs::Refusal::is_between_of))]

@@ -1,8 +1,14 @@
+use mathlib.Core.Path.{sym}
 use Rattle.std.proofs.Common.{arith, rules, get_or}
 use Rattle.std.proofs.Common.{not, pred}
+use Rattle.model.proofs.Laws.Refusal.{all-good}
 use Rattle.model.specs.Checks.{order_check}
 use Rattle.model.specs.Events.{event, before}
 use Rattle.validate.proofs.events.check_order.Goals as goal
+
+pub returns-then-not-any_below : goal.returns-then-not-any_below
+unfolding order_check
+returns-then-not-any_below c = sym (all-good _ _ 1 _ (λ i l u. simp (c.any_below.ensures c.if-not-any_below.true i l (omega arith))))
 
 pub returns : goal.returns
 unfolding order_check
